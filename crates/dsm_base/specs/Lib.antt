@@ -1,0 +1,10 @@
+pub mod Family
+pub mod Causes
+pub mod Plan
+pub mod Sink
+pub mod Files
+pub mod Threads
+pub mod Access
+pub mod Plain
+pub mod Output
+pub mod Agrees

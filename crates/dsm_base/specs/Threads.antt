@@ -1,0 +1,61 @@
+-- How threads go on, whatever they are made of.
+use Rattle.std.specs.Prelude.{◌≡◌, ℕ, ℤ, ◌<◌, List, [], ◌∷◌}
+use Rattle.dsm_base.specs.declared.label.Want.{Want}
+use Rattle.dsm_base.specs.declared.label.Label.{Label}
+use Rattle.dsm_base.specs.declared.setup.Setup.{Setup}
+
+-- what a thread in a state wants next, the text of a line that it wants, and its state after a label
+pub record Semantics (S : Type 0) : Type 0 where
+  pub want : S → Want
+  pub text : S → List ℕ
+  pub after : S → Label → S
+
+-- the labels that complete a want; the answer is the value of a load
+abbrev pub Completes : Want → ℤ → Label → Type 0
+Completes Want.Quiet answer label = label ≡ Label.Quiet
+Completes (Want.Load cell line) answer label = label ≡ Label.Load cell answer
+Completes (Want.Store cell value line) answer label = label ≡ Label.Store cell value
+Completes (Want.Ask lock mode line) answer label = label ≡ Label.Ask lock mode
+Completes (Want.Take lock mode) answer label = (version : ℕ) × (label ≡ Label.Take lock mode version)
+Completes (Want.Give lock line) answer label = label ≡ Label.Give lock
+Completes (Want.Arrive bar) answer label = label ≡ Label.Arrive bar
+Completes (Want.Cross bar) answer label = (epoch : ℕ) × (label ≡ Label.Cross bar epoch)
+Completes Want.Line answer label = (text : List ℕ) × (label ≡ Label.Line text)
+Completes Want.End answer label = label ≡ Label.End
+Completes (Want.Stop fault line) answer label = ⊥
+Completes Want.Over answer label = ⊥
+
+-- the wants in place of which a thread may stop
+abbrev pub MayStop : Want → Type 0
+MayStop (Want.Load cell line) = Unit {0}
+MayStop (Want.Store cell value line) = Unit {0}
+MayStop (Want.Ask lock mode line) = Unit {0}
+MayStop (Want.Give lock line) = Unit {0}
+MayStop (Want.Stop fault line) = Unit {0}
+MayStop _ = ⊥
+
+-- the wants that a step completes
+abbrev pub MayBeDone : Want → Type 0
+MayBeDone (Want.Stop fault line) = ⊥
+MayBeDone Want.Over = ⊥
+MayBeDone _ = Unit {0}
+
+-- the state after some labels, the newest first
+abbrev pub state_after : {S : Type 0} → Semantics S → S → List Label → S
+state_after threads state [] = state
+state_after threads state (label ∷ before) = threads.after (state_after threads state before) label
+
+-- a want names cells, locks and barriers of the setup
+abbrev pub Names : Setup → Want → Type 0
+Names setup (Want.Load cell line) = cell.0 < setup.cells
+Names setup (Want.Store cell value line) = cell.0 < setup.cells
+Names setup (Want.Ask lock mode line) = lock.0 < setup.locks
+Names setup (Want.Take lock mode) = lock.0 < setup.locks
+Names setup (Want.Give lock line) = lock.0 < setup.locks
+Names setup (Want.Arrive bar) = bar.0 < setup.bars
+Names setup (Want.Cross bar) = bar.0 < setup.bars
+Names setup _ = Unit {0}
+
+-- whatever labels come, each want names cells, locks and barriers of the setup
+abbrev pub StaysWithin : {S : Type 0} → Setup → Semantics S → S → Type 0
+StaysWithin setup threads state = (labels : List Label) → Names setup (threads.want (state_after threads state labels))

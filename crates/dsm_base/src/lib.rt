@@ -1,0 +1,22 @@
+//! Names, labels and traits that every part of `dsm` speaks of, and the machine of one memory.
+#![tactic(auto)]
+
+mod errors;
+mod files;
+mod label;
+mod names;
+mod plan;
+mod setup;
+mod sink;
+mod task;
+mod text;
+
+pub use errors::{Failed, MemFault, ReadErr};
+pub use files::{Files, MemFiles, NamedFile, NamedFiles};
+pub use label::{Label, Want};
+pub use names::{Bar, Cell, Fault, Lock, Mode, Proc};
+pub use plan::CallKind;
+pub use setup::{Bindings, Object, Piece, Setup};
+pub use sink::{MemSink, Sink};
+pub use task::{Task, TaskMaker};
+pub use text::Text;
