@@ -1,5 +1,9 @@
 -- How threads go on, whatever they are made of.
-use Rattle.std.specs.Prelude.{◌≡◌, ℕ, ℤ, ◌<◌, List, [], ◌∷◌}
+use Rattle.std.specs.Prelude.{◌≡◌, ◌≢◌, ℕ, ℤ, ◌<◌, List, [], ◌∷◌}
+use Rattle.dsm_base.specs.declared.names.Lock.{Lock}
+use Rattle.dsm_base.specs.declared.names.Bar.{Bar}
+use Rattle.dsm_base.specs.declared.names.Mode.{Mode}
+use Rattle.dsm_base.specs.declared.names.Fault.{Fault}
 use Rattle.dsm_base.specs.declared.label.Want.{Want}
 use Rattle.dsm_base.specs.declared.label.Label.{Label}
 use Rattle.dsm_base.specs.declared.setup.Setup.{Setup}
@@ -59,3 +63,18 @@ Names setup _ = Unit {0}
 -- whatever labels come, each want names cells, locks and barriers of the setup
 abbrev pub StaysWithin : {S : Type 0} → Setup → Semantics S → S → Type 0
 StaysWithin setup threads state = (labels : List Label) → Names setup (threads.want (state_after threads state labels))
+
+-- a thread takes a lock right after it has asked for it, and crosses a barrier right after it has come to it, and at no other time
+pub record AsksFirst {S : Type 0} (threads : Semantics S) (first : S) : Type 0 where
+  pub no_take : (lock : Lock) (mode : Mode) → threads.want first ≢ Want.Take lock mode
+  pub no_cross : (bar : Bar) → threads.want first ≢ Want.Cross bar
+  pub takes : (labels : List Label) (lock : Lock) (mode : Mode) (line : ℕ) → threads.want (state_after threads first labels) ≡ Want.Ask lock mode line →
+      threads.want (threads.after (state_after threads first labels) (Label.Ask lock mode)) ≡ Want.Take lock mode
+  pub crosses : (labels : List Label) (bar : Bar) → threads.want (state_after threads first labels) ≡ Want.Arrive bar →
+      threads.want (threads.after (state_after threads first labels) (Label.Arrive bar)) ≡ Want.Cross bar
+  pub took : (labels : List Label) (answer : ℤ) (label : Label) (lock : Lock) (mode : Mode) → Completes (threads.want (state_after threads first labels)) answer label →
+      threads.want (threads.after (state_after threads first labels) label) ≡ Want.Take lock mode → label ≡ Label.Ask lock mode
+  pub crossed : (labels : List Label) (answer : ℤ) (label : Label) (bar : Bar) → Completes (threads.want (state_after threads first labels)) answer label →
+      threads.want (threads.after (state_after threads first labels) label) ≡ Want.Cross bar → label ≡ Label.Arrive bar
+  pub stops : (labels : List Label) (fault : Fault) (line : ℕ) → threads.want (threads.after (state_after threads first labels) (Label.Stop fault line)) ≡ Want.Over
+  pub ends : (labels : List Label) → threads.want (threads.after (state_after threads first labels) Label.End) ≡ Want.Over

@@ -48,3 +48,12 @@ pub enum Want {
     /// The thread has ended or stopped.
     Over,
 }
+
+/// How a thread came to be over.
+#[derive(Clone, Copy, Debug, PartialEq, Eq)]
+pub enum Ending {
+    /// Its `main` has returned.
+    Ended,
+    /// It has stopped for a fault.
+    Stopped,
+}

@@ -1,6 +1,7 @@
 //! Names, labels and traits that every part of `dsm` speaks of, and the machine of one memory.
 #![tactic(auto)]
 
+mod act;
 mod errors;
 mod files;
 mod label;
@@ -11,9 +12,10 @@ mod sink;
 mod task;
 mod text;
 
+pub use act::Act;
 pub use errors::{Failed, MemFault, ReadErr};
 pub use files::{Files, MemFiles, NamedFile, NamedFiles};
-pub use label::{Label, Want};
+pub use label::{Ending, Label, Want};
 pub use names::{Bar, Cell, Fault, Lock, Mode, Proc};
 pub use plan::CallKind;
 pub use setup::{Bindings, Object, Piece, Setup};

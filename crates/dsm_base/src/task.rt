@@ -59,4 +59,10 @@ pub trait TaskMaker: Drop {
     /// The thread of a processor before its first step, of so many.
     fn start(&self, alloc: Global, me: Proc, procs: u8) -> Result<Self::Made, MemFault>
         ensures { IfOk result (λ task. Self.Made.state task ≡ first self.now procs me.0) };
+
+    ghost use Rattle.dsm_base.specs.Threads.{AsksFirst};
+
+    /// Its threads take a lock right after they have asked for it, and at no other time; so it is
+    /// with barriers.
+    ghost asks_first: { (maker : Self) (procs me : ℕ) → AsksFirst Self.Made.semantics (first maker procs me) };
 }
