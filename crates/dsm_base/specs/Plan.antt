@@ -1,5 +1,5 @@
 -- Which calls of an object in memory fail.
-use Rattle.std.specs.Prelude.{ℕ, ◌-◌, Bool, true, false, ◌&&◌, ◌==◌, if◌then◌else◌, List, map}
+use Rattle.std.specs.Prelude.{◌-◌, Bool, true, false, ◌&&◌, ◌==◌, if◌then◌else◌, List, map}
 use Rattle.std.specs.List.{list_any}
 use Rattle.dsm_base.specs.declared.plan.CallKind.{CallKind}
 use Rattle.dsm_base.specs.declared.plan.PlannedFault.{PlannedFault}

@@ -12,7 +12,7 @@ mod sink;
 mod task;
 mod text;
 
-pub use act::Act;
+pub use act::{Act, SchedErr};
 pub use errors::{Failed, MemFault, ReadErr};
 pub use files::{Files, MemFiles, NamedFile, NamedFiles};
 pub use label::{Ending, Label, Want};

@@ -1,7 +1,6 @@
 -- The state of a lock at its home: who holds it, who waits for it, and its cells at its version.
-use Rattle.std.specs.Prelude.{ℕ, ℤ, pos, ◌%◌, Bool, true, false, ◌&&◌, ◌==◌, not, if◌then◌else◌, List, [], ◌∷◌, ◌++◌, map, filter, drop, length, Option, Some, None}
+use Rattle.std.specs.Prelude.{ℕ, ℤ, pos, ◌%◌, Bool, true, false, ◌&&◌, ◌==◌, not, if◌then◌else◌, List, [], ◌∷◌, ◌++◌, map, filter, Option, Some, None}
 use Rattle.std.specs.List.{range_with_len}
-use Rattle.dsm_base.specs.declared.names.Cell.{Cell}
 use Rattle.dsm_base.specs.declared.names.Mode.{Mode}
 use Rattle.dsm_base.specs.declared.setup.Object.{Object}
 use Rattle.dsm_base.specs.declared.setup.Piece.{Piece}

@@ -1,14 +1,13 @@
 -- Which records a unit makes, from what the trace before it tells.
 use Rattle.std.specs.Prelude.{ℕ, ◌+◌, List, [], ◌∷◌, ◌++◌, Option, Some, None}
 use Rattle.dsm_base.specs.declared.act.Act.{Act}
-use Rattle.dsm_base.specs.declared.label.Label.{Label}
 use Rattle.dsm_base.specs.declared.setup.Setup.{Setup}
 use Rattle.dsm_base.specs.Threads.{Semantics}
 use Rattle.dsm_base.specs.Output.{line_text}
 use Rattle.dsm_trace.specs.declared.message.Msg.{Msg}
 use Rattle.dsm_trace.specs.declared.message.Letter.{Letter}
 use Rattle.dsm_trace.specs.declared.trace.Rec.{Rec}
-use Rattle.dsm_trace.specs.Processor.{Processor, Deed, own_turn}
+use Rattle.dsm_trace.specs.Processor.{Deed, own_turn}
 use Rattle.dsm_trace.specs.Effects.{processor_named, turned, handled}
 use Rattle.dsm_trace.specs.Told.{Told}
 

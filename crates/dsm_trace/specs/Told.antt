@@ -1,6 +1,5 @@
 -- What a trace tells: the processors, the messages and which of them are under way.
-use Rattle.std.specs.Prelude.{ℕ, ◌+◌, ◌==◌, if◌then◌else◌, List, [], ◌∷◌, ◌++◌, Option, Some, None}
-use Rattle.dsm_base.specs.declared.names.Proc.{Proc}
+use Rattle.std.specs.Prelude.{ℕ, ◌==◌, if◌then◌else◌, List, [], ◌∷◌, ◌++◌, Option, Some, None}
 use Rattle.dsm_base.specs.declared.setup.Setup.{Setup}
 use Rattle.dsm_base.specs.Family.{update, update_at}
 use Rattle.dsm_base.specs.Threads.{Semantics}
@@ -8,7 +7,7 @@ use Rattle.dsm_trace.specs.declared.message.Msg.{Msg}
 use Rattle.dsm_trace.specs.declared.message.Letter.{Letter}
 use Rattle.dsm_trace.specs.declared.trace.Rec.{Rec}
 use Rattle.dsm_trace.specs.declared.trace.Group.{Group}
-use Rattle.dsm_trace.specs.Processor.{Processor, Deed, start_processor}
+use Rattle.dsm_trace.specs.Processor.{Processor, start_processor}
 use Rattle.dsm_trace.specs.Effects.{turned, handled}
 
 pub record Told (S : Type 0) : Type 0 where

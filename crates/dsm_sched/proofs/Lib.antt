@@ -1,0 +1,4 @@
+pub mod Arguments
+pub mod WordsOf
+pub mod Rows
+pub mod Refused

@@ -1,0 +1,10 @@
+//! Schedules: which unit comes after which.
+#![tactic(auto)]
+
+mod entry;
+mod lines;
+mod schedule;
+mod words;
+
+pub use entry::{Entry, Kind};
+pub use schedule::{MOST_BYTES, MOST_UNITS, Schedule, Units, read_schedule};
