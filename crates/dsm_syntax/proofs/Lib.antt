@@ -1,0 +1,4 @@
+pub mod Classes
+pub mod Tables
+pub mod Closings
+pub mod Leads
