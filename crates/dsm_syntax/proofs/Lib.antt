@@ -2,3 +2,4 @@ pub mod Classes
 pub mod Tables
 pub mod Closings
 pub mod Leads
+pub mod Readings
