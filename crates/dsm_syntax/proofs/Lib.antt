@@ -3,3 +3,4 @@ pub mod Tables
 pub mod Closings
 pub mod Leads
 pub mod Readings
+pub mod Decisions
