@@ -4,3 +4,4 @@ pub mod Closings
 pub mod Leads
 pub mod Readings
 pub mod Decisions
+pub mod Cuts

@@ -88,7 +88,7 @@ digits_read : (line : ℕ) (w rest : List ℕ) (len : ℕ) → AllAre is_ascii_d
 digits_read line [] rest len a l e = absurd (omega arith)
 digits_read line (b ∷ w) rest len a l e = ap (front_by line (b ∷ (w ++ rest))) (lead_is b (w ++ rest) lead.Number a.0) ∙ ap (number_by line (b ∷ (w ++ rest))) e
 
-some_digits : (w : List ℕ) → IsNumber w → 1 ≤ length w
+pub some_digits : (w : List ℕ) → IsNumber w → 1 ≤ length w
 some_digits [] n = absurd n
 some_digits (b ∷ w) n = omega arith
 
