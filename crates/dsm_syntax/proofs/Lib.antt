@@ -5,3 +5,5 @@ pub mod Leads
 pub mod Readings
 pub mod Decisions
 pub mod Cuts
+pub mod Turns
+pub mod Laws

@@ -15,6 +15,7 @@ use Rattle.dsm_syntax.specs.declared.front.Shape.{Shape}
 use Rattle.dsm_syntax.specs.declared.front.Shape.TheVariants as s
 use Rattle.dsm_syntax.specs.declared.sign.Sign.{Sign}
 use Rattle.dsm_syntax.specs.declared.sign.TheConstants.{SIGNS}
+use Rattle.dsm_syntax.specs.declared.token.Token.{Token}
 use Rattle.dsm_syntax.specs.declared.token.TokenKind.{TokenKind}
 use Rattle.dsm_syntax.specs.declared.token.TokenKind.TheVariants as kind
 use Rattle.dsm_syntax.specs.declared.word.Word.{Word}
@@ -134,3 +135,13 @@ kind_of (s.Word word) bytes = Some (kind.Word word)
 kind_of (s.Number value) bytes = Some (kind.Number value)
 kind_of s.Str bytes = Some (kind.Str (held_in bytes))
 kind_of (s.Sign sign) bytes = Some (kind.Sign sign)
+
+-- a token at a place, where there is one
+abbrev pub listed : Option TokenKind → ℕ → ℕ → ℕ → List Token
+listed None at len line = []
+listed (Some kind) at len line = record { kind = kind; at = at; len = len; line = line } ∷ []
+
+-- a token is one too many
+abbrev pub IsUnlisted : List Token → Option TokenKind → ProgErr → Type 0
+IsUnlisted tokens None e = ⊥
+IsUnlisted tokens (Some kind) e = (65536 ≤ length tokens) × (e ≡ err.Limit which.Tokens 65537)
