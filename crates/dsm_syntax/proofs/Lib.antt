@@ -7,3 +7,4 @@ pub mod Decisions
 pub mod Cuts
 pub mod Turns
 pub mod Laws
+pub mod Continuations

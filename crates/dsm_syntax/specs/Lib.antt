@@ -5,3 +5,4 @@ pub mod Pieces
 pub mod Faults
 pub mod Texts
 pub mod Fronts
+pub mod Ends
