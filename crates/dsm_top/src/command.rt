@@ -1,7 +1,7 @@
 //! The words of the command line.
 
-ghost use Rattle.std.specs.Prelude.{◌≡◌, None, Some, MatchOption, map, string_bytes};
-ghost use Rattle.dsm_top.specs.Command.{files_of};
+ghost use Rattle.std.specs.Prelude.{◌≡◌, map, string_bytes};
+ghost use Rattle.dsm_top.specs.Command.{files_of, names_in};
 
 /// The two files that `run PROGRAM SCHEDULE` names.
 #[derive(Clone, Copy)]
@@ -12,7 +12,7 @@ pub(crate) struct RunFiles<'a> {
 
 /// The files of the one command, where the words are it.
 pub(crate) fn read_command(words: &[String]) -> Option<RunFiles<'_>>
-    ensures { MatchOption result (files_of (map string_bytes words.now) ≡ None) (λ files. files_of (map string_bytes words.now) ≡ Some record { program = string_bytes files.program.now; schedule = string_bytes files.schedule.now }) }
+    ensures { names_in result ≡ files_of (map string_bytes words.now) }
 {
     match words {
         [command, program, schedule] if command.as_str() == "run" => {

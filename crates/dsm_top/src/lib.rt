@@ -3,6 +3,9 @@
 
 mod command;
 mod host;
+mod message;
 mod output;
+mod status;
 
 pub use host::{HostFiles, StdSink};
+pub use status::{Report, Status};

@@ -1,0 +1,96 @@
+-- The numbers of statuses, and the messages of refusals.
+use Rattle.std.specs.Prelude.{ℕ, ◌==◌, Bool, true, false, if◌then◌else◌, List, [], ◌∷◌, ◌++◌, Option, Some, None, codes}
+use Rattle.std.specs.Fmt.{decimal}
+use Rattle.dsm_base.specs.declared.act.SchedErr.{SchedErr}
+use Rattle.dsm_syntax.specs.declared.errors.Which.{Which}
+use Rattle.dsm_syntax.specs.declared.errors.ProgErr.{ProgErr}
+use Rattle.dsm_top.specs.declared.status.Status.{Status}
+use Rattle.dsm_top.specs.Command.{FileNames}
+
+-- the exit status
+abbrev pub number_of_status : Status → ℕ
+number_of_status Status.Done = 0
+number_of_status Status.Stopped = 1
+number_of_status Status.Unfinished = 2
+number_of_status (Status.ProgramRefused error) = 3
+number_of_status (Status.ScheduleRefused error) = 4
+number_of_status Status.WordsRefused = 5
+number_of_status (Status.ReadFault file) = 6
+number_of_status Status.WriteFault = 7
+number_of_status Status.Memory = 10
+
+abbrev pub limit_name : Which → List ℕ
+limit_name Which.Text = codes "Text"
+limit_name Which.Name = codes "Name"
+limit_name Which.Tokens = codes "Tokens"
+limit_name Which.Nesting = codes "Nesting"
+limit_name Which.Functions = codes "Functions"
+limit_name Which.Params = codes "Params"
+limit_name Which.Slots = codes "Slots"
+limit_name Which.PrintParts = codes "PrintParts"
+limit_name Which.PrintText = codes "PrintText"
+limit_name Which.SharedCells = codes "SharedCells"
+limit_name Which.PrivateCells = codes "PrivateCells"
+limit_name Which.Locks = codes "Locks"
+limit_name Which.Barriers = codes "Barriers"
+
+-- a text with a number behind it
+abbrev pub numbered : List ℕ → ℕ → List ℕ
+numbered text number = text ++ decimal number
+
+abbrev pub at_line : ℕ → List ℕ
+at_line line = numbered (codes ", line ") line
+
+-- a name between two texts, with its line
+abbrev pub named : List ℕ → List ℕ → List ℕ → ℕ → List ℕ
+named before name after line = before ++ name ++ after ++ at_line line
+
+-- why a program is refused; want of memory refuses none
+abbrev pub program_text : ProgErr → List ℕ
+program_text (ProgErr.BadByte line) = codes "bad byte" ++ at_line line
+program_text (ProgErr.LiteralTooLarge line) = codes "literal too large" ++ at_line line
+program_text (ProgErr.Limit which count) = codes "limit " ++ limit_name which ++ codes ", count " ++ decimal count
+program_text (ProgErr.Unexpected line) = codes "unexpected token" ++ at_line line
+program_text (ProgErr.Unknown name line) = named (codes "unknown name ") name [] line
+program_text (ProgErr.Twice name line) = named (codes "name ") name (codes " twice") line
+program_text (ProgErr.WrongKind name line) = named (codes "wrong kind ") name [] line
+program_text (ProgErr.ArgCount name line given wanted) = name ++ codes " takes " ++ decimal wanted ++ codes ", given " ++ decimal given ++ at_line line
+program_text ProgErr.NoMain = codes "no main"
+program_text (ProgErr.BindRange line) = codes "binding out of range" ++ at_line line
+program_text (ProgErr.BindOverlap cell line) = codes "cell " ++ decimal cell ++ codes " bound twice" ++ at_line line
+program_text (ProgErr.BindOwner owner procs) = numbered (codes "owner ") owner ++ (numbered (codes " with ") procs ++ codes " processors")
+program_text (ProgErr.OutsideLoop line) = codes "outside a loop" ++ at_line line
+program_text (ProgErr.NotBuilt line) = codes "not built" ++ at_line line
+program_text ProgErr.Memory = codes "out of memory"
+
+abbrev pub schedule_text : SchedErr → List ℕ
+schedule_text (SchedErr.NotBuilt line) = codes "not built" ++ at_line line
+schedule_text SchedErr.Memory = codes "out of memory"
+
+-- the name of the file that could not be read: 0 is the program, 1 the schedule
+abbrev pub file_name : Option FileNames → ℕ → List ℕ
+file_name None file = []
+file_name (Some files) file = if file == 0 then files.program else files.schedule
+
+-- why a status refuses, where it does
+abbrev pub refusal_text : Option FileNames → Status → List ℕ
+refusal_text files (Status.ProgramRefused error) = codes "program refused: " ++ program_text error
+refusal_text files (Status.ScheduleRefused error) = codes "schedule refused: " ++ schedule_text error
+refusal_text files Status.WordsRefused = codes "words refused"
+refusal_text files (Status.ReadFault file) = codes "cannot read " ++ file_name files file
+refusal_text files _ = []
+
+abbrev pub message_line : List ℕ → List ℕ
+message_line text = codes "dsm: " ++ text ++ 10 ∷ []
+
+-- whether a status refuses
+abbrev pub is_refusal : Status → Bool
+is_refusal (Status.ProgramRefused error) = true
+is_refusal (Status.ScheduleRefused error) = true
+is_refusal Status.WordsRefused = true
+is_refusal (Status.ReadFault file) = true
+is_refusal _ = false
+
+-- the message of a status: one line where it refuses, and else nothing
+abbrev pub message_of : Option FileNames → Status → List ℕ
+message_of files status = if is_refusal status then message_line (refusal_text files status) else []

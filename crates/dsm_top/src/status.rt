@@ -1,0 +1,60 @@
+//! How a call ends.
+
+ghost use Rattle.std.specs.Prelude.{◌≡◌};
+ghost use Rattle.dsm_top.specs.Messages.{number_of_status};
+
+use dsm_base::SchedErr;
+use dsm_syntax::ProgErr;
+use dsm_trace::Trace;
+
+/// How a call ended.
+#[derive(Debug, Drop)]
+pub enum Status {
+    /// The schedule is used up and every thread has ended.
+    Done,
+    /// The schedule is used up, every thread has ended or stopped, and some have stopped.
+    Stopped,
+    /// The schedule is used up, and a thread has neither ended nor stopped.
+    Unfinished,
+    /// The program is refused.
+    ProgramRefused(ProgErr),
+    /// The schedule is refused.
+    ScheduleRefused(SchedErr),
+    /// The words are no command.
+    WordsRefused,
+    /// A file could not be read: 0 is the first that the words name, 1 the second.
+    ReadFault(u8),
+    /// Not all that was to be written could be.
+    WriteFault,
+    /// Want of memory.
+    Memory,
+}
+
+impl Status {
+    /// The exit status.
+    pub fn number(&self) -> u8
+        ensures { result ≡ number_of_status self.now }
+    {
+        match self {
+            Status::Done => 0,
+            Status::Stopped => 1,
+            Status::Unfinished => 2,
+            Status::ProgramRefused(_) => 3,
+            Status::ScheduleRefused(_) => 4,
+            Status::WordsRefused => 5,
+            Status::ReadFault(_) => 6,
+            Status::WriteFault => 7,
+            Status::Memory => 10,
+        }
+    }
+}
+
+/// What a call answers.
+#[derive(Debug, Drop)]
+pub struct Report {
+    pub status: Status,
+    /// What happened in this call's run; empty where no run began.
+    pub trace: Trace,
+    /// How many units of the schedule were applied.
+    pub units: u32,
+}
