@@ -30,15 +30,15 @@ update_at_other_second f k l v i j ne = grind arith
 
 -- what holds of all below a bound holds of each
 pub all_at : (n : ℕ) (test : ℕ → Bool) (k : ℕ) → k < n → all_below n test ≡ true → test k ≡ true
-all_at zero test k lt e = ?
-all_at (suc n) test k lt e = ?
+all_at zero test k lt e = absurd (omega arith)
+all_at (suc n) test k lt e = grind (arith, all_at n test k)
 
 -- what holds of each below a bound holds of all
 pub all_from : (n : ℕ) (test : ℕ → Bool) → ((k : ℕ) → k < n → test k ≡ true) → all_below n test ≡ true
-all_from zero test h = ?
-all_from (suc n) test h = ?
+all_from zero test h = refl
+all_from (suc n) test h = grind (arith, h n, all_from n test (λ k lt. h k (omega arith)))
 
 -- two tests that are the same below a bound
 pub all_same : (n : ℕ) (f g : ℕ → Bool) → ((k : ℕ) → k < n → f k ≡ g k) → all_below n f ≡ all_below n g
-all_same zero f g h = ?
-all_same (suc n) f g h = ?
+all_same zero f g h = refl
+all_same (suc n) f g h = grind (arith, h n, all_same n f g (λ k lt. h k (omega arith)))

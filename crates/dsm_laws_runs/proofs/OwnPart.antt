@@ -1,5 +1,5 @@
 -- A processor's thread, holds, arrivals and crossings after a run are told by its labels alone.
-use Rattle.std.specs.Prelude.{◌≡◌, ◌≢◌, ℕ, ◌+◌, ◌≤◌, ◌==◌, Bool, true, false, if◌then◌else◌, List, [], ◌∷◌, Option, Some, None}
+use Rattle.std.specs.Prelude.{◌≡◌, ◌≢◌, ℕ, ◌+◌, ◌≤◌, ◌<◌, ◌==◌, Bool, true, false, if◌then◌else◌, List, [], ◌∷◌, Option, Some, None}
 use Rattle.std.proofs.Common.{arith, refl, ap}
 use Rattle.dsm_base.specs.declared.names.Mode.{Mode}
 use Rattle.dsm_base.specs.declared.label.Label.{Label}
@@ -24,17 +24,22 @@ module _ {S : Type 0} (threads : Semantics S) (s : PlainState S) (p q : ℕ) (la
 
 module _ {S : Type 0} (first : ℕ → S) (threads : Semantics S) where
   pub own_thread : (run : List Turn) (p : ℕ) → (after_run first threads run).threads p ≡ state_after threads (first p) (labels_of p run)
-  own_thread run p = ?
+  own_thread [] p = refl
+  own_thread (turn ∷ before) p = grind (arith, own_thread before p)
 
   pub own_held : (run : List Turn) (p : ℕ) → (after_run first threads run).held p ≡ held_of (labels_of p run)
-  own_held run p = ?
+  own_held [] p = refl
+  own_held (turn ∷ before) p = grind (arith, own_held before p)
 
   pub own_arrived : (run : List Turn) (p : ℕ) → (after_run first threads run).arrived p ≡ arrived_of (labels_of p run)
-  own_arrived run p = ?
+  own_arrived [] p = refl
+  own_arrived (turn ∷ before) p = grind (arith, own_arrived before p)
 
   pub own_crossed : (run : List Turn) (p : ℕ) → (after_run first threads run).crossed p ≡ crossed_of (labels_of p run)
-  own_crossed run p = ?
+  own_crossed [] p = refl
+  own_crossed (turn ∷ before) p = grind (arith, own_crossed before p)
 
   -- one that is no processor of the setup makes no turn
   pub no_labels : (setup : Setup) (run : List Turn) → IsPlainRun setup first threads run → (p : ℕ) → setup.procs ≤ p → labels_of p run ≡ []
-  no_labels setup run is_run p past = ?
+  no_labels setup [] is_run p past = refl
+  no_labels setup (turn ∷ before) is_run p past = let lt : turn.proc < setup.procs = is_run.1.is_processor in grind (arith, no_labels setup before is_run.0 p past)

@@ -13,7 +13,8 @@ use Rattle.dsm_laws_runs.specs.Versions.{IsCellOf, SameAt}
 use Rattle.dsm_laws_runs.specs.Steps.{Step, turns_of, deeds_by, BringsLock}
 
 pub same_labels : (p : ℕ) (steps : List Step) → labels_of p (turns_of steps) ≡ deed_labels (deeds_by p steps)
-same_labels p steps = ?
+same_labels p [] = refl
+same_labels p (step ∷ before) = grind (arith, same_labels p before)
 
 -- the values of all of a lock's cells, where they are cells of the setup, bring the lock
 pub values_bring : (setup : Setup) (lock : ℕ) → ((cell : ℕ) → IsCellOf setup lock cell → cell < setup.cells) → (memory values copy : ℕ → ℤ) → SameAt setup lock values memory →
