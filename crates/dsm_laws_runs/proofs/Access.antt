@@ -1,5 +1,5 @@
 -- A lock's cells are stored to by its exclusive holder only, and loaded by its holders only.
-use Rattle.std.specs.Prelude.{◌≡◌, ◌⊎◌, if◌then◌else◌, ℕ, ℤ, Bool, true, false, List, [], ◌∷◌, find, Option, Some, None, is_some}
+use Rattle.std.specs.Prelude.{◌≡◌, ◌⊎◌, if◌then◌else◌, ℕ, ℤ, Bool, true, List, [], ◌∷◌, find, Option, Some, None, is_some}
 use Rattle.std.specs.List.{AllByRecursion}
 use Rattle.std.proofs.Common.{arith, refl, subst, ⊎_elim}
 use Rattle.dsm_base.specs.declared.names.Cell.{Cell}

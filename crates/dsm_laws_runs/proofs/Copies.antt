@@ -1,5 +1,5 @@
 -- Agreement: in a run whose takes bring their locks' cells, each copy has the memory's values at the locks that its processor holds.
-use Rattle.std.specs.Prelude.{◌≡◌, ◌≢◌, ℕ, ℤ, ◌+◌, ◌≤◌, ◌<◌, ◌==◌, Bool, true, false, if◌then◌else◌, List, [], ◌∷◌, Option, Some, None, is_some}
+use Rattle.std.specs.Prelude.{◌≡◌, ◌≢◌, ℕ, ℤ, ◌+◌, ◌<◌, true, false, List, [], ◌∷◌, Option, Some, is_some}
 use Rattle.std.proofs.Common.{arith, refl, ap, sym, subst, ◌∙◌, ⊎_elim}
 use Rattle.std.proofs.lemmas.Bool.{cases_Bool, cases_eq}
 use Rattle.dsm_base.specs.declared.names.Lock.{Lock}
@@ -22,7 +22,7 @@ use Rattle.dsm_laws_runs.specs.Versions.{AllAskFirst, IsCellOf, SameAt, makes_ve
 use Rattle.dsm_laws_runs.specs.Steps.{Step, turns_of, deeds_by, BringsLock, Brings, IsAdequate}
 use Rattle.dsm_laws_runs.specs.Agreement.{AgreesAt, AgreesAfter, Agreement, IsLockRun}
 use Rattle.dsm_laws_runs.proofs.OwnPart.{own_held}
-use Rattle.dsm_laws_runs.proofs.Turns.{takes_of, gives_of}
+use Rattle.dsm_laws_runs.proofs.Turns.{gives_of}
 use Rattle.dsm_laws_runs.proofs.Exclusion.{exclusive_alone, no_exclusive}
 use Rattle.dsm_laws_runs.proofs.Versions.{version_rises, version_kept, version_made, take_version}
 use Rattle.dsm_laws_runs.proofs.Access.{stores_hold, LoadsUnder, loads_under}
@@ -134,7 +134,7 @@ module _ {S : Type 0} (setup : Setup) (first : ℕ → S) (threads : Semantics S
       exclusive was e =
           let made : makes_version given.0 ((after_run first threads before).held p) (Label.Give given) ≡ true = grind arith in
           let after : versions_after (after_run first threads before).versions ((after_run first threads before).held p) (Label.Give given) given.0 ≡ (after_run first threads before).versions given.0 + 1 =
-              version_made (after_run first threads before).versions ((after_run first threads before).held p) (Label.Give given) given.0 made in
+          version_made (after_run first threads before).versions ((after_run first threads before).held p) (Label.Give given) given.0 made in
           let own : own_versions_after versions ((after_run first threads before).held p) (Label.Give given) given.0 ≡ (after_run first threads before).versions given.0 + 1 = grind (arith, was.current holds) in
           record {
             no_newer = rw (after, own) (omega arith);
@@ -175,7 +175,7 @@ module _ {S : Type 0} (setup : Setup) (first : ℕ → S) (threads : Semantics S
       IsPlainTurn setup threads (after_run first threads (turns_of before)) (record { proc = step.proc; label = step.deed.label }) →
       Brings setup (memory_at first threads (turns_of before)) (own_copy (deeds_by step.proc before)) step.deed.label step.deed.cells →
       (p lock : ℕ) → AgreesAfter setup first threads before p lock → AgreesAfter setup first threads (step ∷ before) p lock
-  one_step before is_run adequate step turn brings p lock was = 
+  one_step before is_run adequate step turn brings p lock was =
       ⊎_elim (λ e. subst (λ q. AgreesAfter setup first threads before q lock → AgreesAfter setup first threads (step ∷ before) q lock) (sym e) own was) other (cases_eq p step.proc)
     where
       own : AgreesAfter setup first threads before step.proc lock → AgreesAfter setup first threads (step ∷ before) step.proc lock
