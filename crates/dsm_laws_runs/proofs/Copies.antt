@@ -8,7 +8,7 @@ use Rattle.dsm_base.specs.declared.names.Mode.{Mode}
 use Rattle.dsm_base.specs.declared.label.Label.{Label}
 use Rattle.dsm_base.specs.declared.setup.Setup.{Setup}
 use Rattle.dsm_base.specs.declared.setup.Piece.{Piece}
-use Rattle.dsm_base.specs.Access.{piece_of, is_exclusive}
+use Rattle.dsm_base.specs.Access.{Rights, piece_of, is_exclusive}
 use Rattle.dsm_base.specs.Threads.{Semantics}
 use Rattle.dsm_base.specs.Plain.{Turn, IsPlainRun, IsPlainTurn, after_run, plain_after, plain_turn, seen_by, memory_after, held_after, versions_after, labels_of}
 use Rattle.dsm_base.specs.Agrees.{HasMemory, AgreesWith}
@@ -25,7 +25,7 @@ use Rattle.dsm_laws_runs.proofs.OwnPart.{own_held}
 use Rattle.dsm_laws_runs.proofs.Turns.{gives_of}
 use Rattle.dsm_laws_runs.proofs.Exclusion.{exclusive_alone, no_exclusive}
 use Rattle.dsm_laws_runs.proofs.Versions.{version_rises, version_kept, version_made, take_version}
-use Rattle.dsm_laws_runs.proofs.Access.{stores_hold, LoadsUnder, loads_under}
+use Rattle.dsm_laws_runs.proofs.Access.{BoundTo, bound_to, may_load_is, loaded_in_piece, stores_hold}
 use Rattle.dsm_laws_runs.proofs.Memory.{memory_at_turn, memory_at_kept, memory_at_made, memory_is_version, shared_is_version}
 use Rattle.dsm_laws_runs.proofs.Steps.{same_labels}
 
@@ -55,13 +55,13 @@ none_over copy cells e = rw e refl
 -- One turn, in a plain run, and what a copy is worth at a lock after it.
 module _ {S : Type 0} (setup : Setup) (first : ℕ → S) (threads : Semantics S) (before : List Turn) (is_run : IsPlainRun setup first threads before) where
   -- a turn of another leaves the memory of a held lock's cells, and its version
-  kept_memory : (p r : ℕ) (label : Label) → p ≢ r → plain_turn setup threads (after_run first threads before) r ≡ Some label → (lock : ℕ) → is_some ((after_run first threads before).held p lock) ≡ true →
+  pub kept_memory : (p r : ℕ) (label : Label) → p ≢ r → plain_turn setup threads (after_run first threads before) r ≡ Some label → (lock : ℕ) → is_some ((after_run first threads before).held p lock) ≡ true →
       SameAt setup lock (memory_after (after_run first threads before).memory label) (after_run first threads before).memory
   kept_memory p r (Label.Store stored value) ne turn lock h =
       λ cell is. grind (arith, stores_hold setup threads (after_run first threads before) r stored value turn lock, exclusive_alone setup first threads before is_run r p lock (λ e. ne (sym e)))
   kept_memory p r _ ne turn lock h = λ cell is. refl
 
-  kept_version : (p r : ℕ) (label : Label) → p ≢ r → (lock : ℕ) → is_some ((after_run first threads before).held p lock) ≡ true →
+  pub kept_version : (p r : ℕ) (label : Label) → p ≢ r → (lock : ℕ) → is_some ((after_run first threads before).held p lock) ≡ true →
       makes_version lock ((after_run first threads before).held r) label ≡ false
   kept_version p r label ne lock h = grind (arith, exclusive_alone setup first threads before is_run r p lock (λ e. ne (sym e)))
 
@@ -200,8 +200,9 @@ module _ {S : Type 0} (setup : Setup) (first : ℕ → S) (threads : Semantics S
   pub has_memory : BindsLocksOnly setup → (steps : List Step) → IsPlainRun setup first threads (turns_of steps) → IsAdequate setup first threads steps → (p : ℕ) →
       HasMemory setup.bindings (after_run first threads (turns_of steps)) p (own_copy (deeds_by p steps))
   has_memory binds steps is_run adequate p = λ cell may between.
-      let under : LoadsUnder setup (seen_by (after_run first threads (turns_of steps)) p).rights cell = loads_under setup binds p (seen_by (after_run first threads (turns_of steps)) p).rights cell may in
-      (agrees_at steps is_run adequate p under.lock).same under.is_held cell under.is_cell
+      let rights : Rights = (seen_by (after_run first threads (turns_of steps)) p).rights in
+      let bound : BoundTo setup cell = bound_to setup binds cell (loaded_in_piece setup.bindings p rights cell may) in
+      (agrees_at steps is_run adequate p bound.lock).same (rw (← may_load_is setup p rights bound.lock cell bound.is_cell) may) cell bound.is_cell
 
   pub agrees_with : BindsLocksOnly setup → (steps : List Step) → IsPlainRun setup first threads (turns_of steps) → IsAdequate setup first threads steps → (p : ℕ) →
       AgreesWith setup first threads (turns_of steps) p (deed_labels (deeds_by p steps)) (own_copy (deeds_by p steps))
