@@ -15,7 +15,7 @@ use Rattle.dsm_base.specs.Threads.{Semantics}
 use Rattle.dsm_base.specs.Plain.{PlainState, Turn, IsPlainRun, IsPlainTurn, after_run, plain_after, plain_turn, plain_turn_of, memory_after, held_after, versions_after, arrived_after, crossed_after, can_take, can_cross, may_stand_beside}
 use Rattle.dsm_laws_runs.specs.Versions.{AllAskFirst, IsCellOf, SameAt, makes_version, memory_at}
 use Rattle.dsm_trace.specs.OneMemory.{BindsLocksOnly}
-use Rattle.dsm_laws_runs.specs.Swap.{rests_on, clashes, ChangePlaces}
+use Rattle.dsm_laws_runs.specs.Swap.{rests_on, clashes, AreFree, ChangePlaces}
 use Rattle.dsm_laws_runs.proofs.Families.{all_at, all_from, update_swap}
 use Rattle.dsm_laws_runs.proofs.OwnPart.{other_thread, other_held, other_arrived, other_crossed}
 use Rattle.dsm_laws_runs.proofs.Turns.{takes_of}
@@ -245,11 +245,17 @@ module _ {S : Type 0} (setup : Setup) (first : ℕ → S) (threads : Semantics S
       same_versions = same_at;
     }
 
-  -- where all cells are bound to locks
-  pub change_places : BindsLocksOnly setup → rests_on ((after_run first threads before).held earlier.proc) earlier.label later.label ≡ false → ChangePlaces setup first threads before earlier later
-  change_places binds rests =
-      changed rests
-      (no_clash setup binds threads start (plain_after threads start earlier.proc earlier.label) earlier.proc later.proc (other_held threads start later.proc earlier.proc earlier.label back)
-          (λ lock. exclusive_alone setup first threads before is_run.0.0 earlier.proc later.proc lock apart)
-          (λ lock. exclusive_alone setup first threads before is_run.0.0 later.proc earlier.proc lock back)
-          earlier.label later.label is_run.0.1.is_label is_run.1.is_label)
+-- where all cells are bound to locks neighbouring turns don't clash
+pub free_clash : {S : Type 0} (setup : Setup) (first : ℕ → S) (threads : Semantics S) (before : List Turn) (earlier later : Turn) → BindsLocksOnly setup →
+    IsPlainRun setup first threads (later ∷ earlier ∷ before) → earlier.proc ≢ later.proc → clashes earlier.label later.label ≡ false
+free_clash setup first threads before earlier later binds is_run apart =
+    no_clash setup binds threads (after_run first threads before) (after_run first threads (earlier ∷ before)) earlier.proc later.proc
+    (other_held threads (after_run first threads before) later.proc earlier.proc earlier.label (λ e. apart (sym e)))
+    (λ lock. exclusive_alone setup first threads before is_run.0.0 earlier.proc later.proc lock apart)
+    (λ lock. exclusive_alone setup first threads before is_run.0.0 later.proc earlier.proc lock (λ e. apart (sym e)))
+    earlier.label later.label is_run.0.1.is_label is_run.1.is_label
+
+pub change_places : {S : Type 0} (setup : Setup) (first : ℕ → S) (threads : Semantics S) (before : List Turn) (earlier later : Turn) → AreFree setup first threads before earlier later →
+    ChangePlaces setup first threads before earlier later
+change_places setup first threads before earlier later f =
+    changed setup first threads f.ask_first before earlier later f.is_run f.apart f.free (free_clash setup first threads before earlier later f.binds_locks f.is_run f.apart)
