@@ -9,3 +9,4 @@ pub mod Memory
 pub mod Steps
 pub mod Copies
 pub mod Swap
+mod Example

@@ -154,7 +154,7 @@ exclusive_some held e = grind arith
 memory_at_if : {S : Type 0} (first : ℕ → S) (threads : Semantics S) (turn : Turn) (before : List Turn) (lock version cell : ℕ) →
     memory_at first threads (turn ∷ before) lock version cell
     ≡ (if makes_version lock ((after_run first threads before).held turn.proc) turn.label && ((after_run first threads before).versions lock + 1 == version)
-        then (after_run first threads before).memory cell else memory_at first threads before lock version cell)
+    then (after_run first threads before).memory cell else memory_at first threads before lock version cell)
 memory_at_if first threads turn before lock version cell = grind arith
 
 same_choice : (one other : Bool) (now after_one after_other version : ℕ) (value with_one with_other rest : ℤ) → (one ≡ true → other ≡ false) → (one ≡ false → after_one ≡ now) → (other ≡ false → after_other ≡ now) →
@@ -168,7 +168,7 @@ taken_both : {S : Type 0} (setup : Setup) (threads : Semantics S) (s : PlainStat
     (taken : Lock) (other : Mode) (now : ℕ) → taken.0 ≡ lock.0 → plain_turn setup threads (plain_after threads s p x) q ≡ Some (Label.Take taken other now) → may_stand_beside other (Some mode) ≡ true
 taken_both setup threads s p q x lt apart lock mode version is taken other now same turn =
     let may : may_stand_beside other ((plain_after threads s p x).held p taken.0) ≡ true =
-        beside_of setup.procs (plain_after threads s p x).held q taken.0 other p lt apart (takes_of setup (plain_after threads s p x) q _ _ taken other now turn).possible in
+    beside_of setup.procs (plain_after threads s p x).held q taken.0 other p lt apart (takes_of setup (plain_after threads s p x) q _ _ taken other now turn).possible in
     let holds : (plain_after threads s p x).held p taken.0 ≡ Some mode = grind arith in
     rw holds at may
 
@@ -203,30 +203,35 @@ module _ {S : Type 0} (setup : Setup) (first : ℕ → S) (threads : Semantics S
     later_turn =
         same_turn setup start (plain_after threads start earlier.proc earlier.label) later.proc _ _ later.label
         (later_first setup threads start earlier.proc later.proc earlier.label later.label apart rests clash
-            (λ taken mode version is. takes_when_free setup first threads ask_first before is_run.0.0 earlier.proc is_run.0.1.is_processor taken mode version (rw is at is_run.0.1.is_label)))
+        (λ taken mode version is. takes_when_free setup first threads ask_first before is_run.0.0 earlier.proc is_run.0.1.is_processor taken mode version (rw is at is_run.0.1.is_label)))
         (rw (other_thread threads start later.proc earlier.proc earlier.label back) at is_run.1.is_label)
 
     earlier_turn : plain_turn setup threads (plain_after threads start later.proc later.label) earlier.proc ≡ Some earlier.label
     earlier_turn =
         same_turn setup (plain_after threads start later.proc later.label) start earlier.proc _ _ earlier.label
         (earlier_second setup threads start earlier.proc later.proc earlier.label later.label apart clash
-            (λ lock mode version is. taken_beside setup first threads before is_run.0.0 earlier.proc lock mode version (rw is at is_run.0.1.is_label) later.proc back)
-            (λ lock mode version is taken other now takes same. taken_both setup threads start earlier.proc later.proc earlier.label is_run.0.1.is_processor apart lock mode version is taken other now same (rw takes at is_run.1.is_label)))
+        (λ lock mode version is. taken_beside setup first threads before is_run.0.0 earlier.proc lock mode version (rw is at is_run.0.1.is_label) later.proc back)
+        (λ lock mode version is taken other now takes same. taken_both setup threads start earlier.proc later.proc earlier.label is_run.0.1.is_processor apart lock mode version is taken other now same (rw takes at is_run.1.is_label)))
         (rw (other_thread threads start earlier.proc later.proc later.label apart) is_run.0.1.is_label)
 
     -- the cells of a lock at a version, which at most one of the two turns makes
     same_at : (lock version : ℕ) → SameAt setup lock (memory_at first threads (earlier ∷ later ∷ before) lock version) (memory_at first threads (later ∷ earlier ∷ before) lock version)
     same_at lock version cell is =
         memory_at_if first threads earlier (later ∷ before) lock version cell
-        ∙ rw (memory_at_if first threads later before lock version cell, memory_at_if first threads later (earlier ∷ before) lock version cell, memory_at_if first threads earlier before lock version cell,
-            other_held threads start earlier.proc later.proc later.label apart, other_held threads start later.proc earlier.proc earlier.label back)
+        ∙ rw (
+          memory_at_if first threads later before lock version cell,
+          memory_at_if first threads later (earlier ∷ before) lock version cell,
+          memory_at_if first threads earlier before lock version cell,
+          other_held threads start earlier.proc later.proc later.label apart,
+          other_held threads start later.proc earlier.proc earlier.label back,
+        )
         (same_choice one other (start.versions lock) ((plain_after threads start earlier.proc earlier.label).versions lock) ((plain_after threads start later.proc later.label).versions lock) version
-            (start.memory cell) ((plain_after threads start earlier.proc earlier.label).memory cell) ((plain_after threads start later.proc later.label).memory cell) (memory_at first threads before lock version cell)
-            alone
-            (version_kept start.versions (start.held earlier.proc) earlier.label lock)
-            (version_kept start.versions (start.held later.proc) later.label lock)
-            (λ made. kept_memory setup first threads before is_run.0.0 later.proc earlier.proc earlier.label back is_run.0.1.is_label lock (exclusive_some _ (makes_exclusive lock (start.held later.proc) later.label made)) cell is)
-            (λ made. kept_memory setup first threads before is_run.0.0 earlier.proc later.proc later.label apart later_turn lock (exclusive_some _ (makes_exclusive lock (start.held earlier.proc) earlier.label made)) cell is))
+        (start.memory cell) ((plain_after threads start earlier.proc earlier.label).memory cell) ((plain_after threads start later.proc later.label).memory cell) (memory_at first threads before lock version cell)
+        alone
+        (version_kept start.versions (start.held earlier.proc) earlier.label lock)
+        (version_kept start.versions (start.held later.proc) later.label lock)
+        (λ made. kept_memory setup first threads before is_run.0.0 later.proc earlier.proc earlier.label back is_run.0.1.is_label lock (exclusive_some _ (makes_exclusive lock (start.held later.proc) later.label made)) cell is)
+        (λ made. kept_memory setup first threads before is_run.0.0 earlier.proc later.proc later.label apart later_turn lock (exclusive_some _ (makes_exclusive lock (start.held earlier.proc) earlier.label made)) cell is))
       where
         one : Bool
         one = makes_version lock (start.held earlier.proc) earlier.label
@@ -235,8 +240,12 @@ module _ {S : Type 0} (setup : Setup) (first : ℕ → S) (threads : Semantics S
         other = makes_version lock (start.held later.proc) later.label
 
         alone : makes_version lock (start.held earlier.proc) earlier.label ≡ true → makes_version lock (start.held later.proc) later.label ≡ false
-        alone made = grind (arith, makes_exclusive lock (start.held earlier.proc) earlier.label made, makes_exclusive lock (start.held later.proc) later.label,
-            exclusive_alone setup first threads before is_run.0.0 earlier.proc later.proc lock apart)
+        alone made = grind (
+          arith,
+          makes_exclusive lock (start.held earlier.proc) earlier.label made,
+          makes_exclusive lock (start.held later.proc) later.label,
+          exclusive_alone setup first threads before is_run.0.0 earlier.proc later.proc lock apart,
+        )
 
     pub changed : ChangePlaces setup first threads before earlier later
     changed = record {
