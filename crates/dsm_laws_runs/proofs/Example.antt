@@ -1,5 +1,5 @@
 -- A worked run that meets the premises of agreement: two processors store to one cell under one lock, one after the other.
-use Rattle.std.specs.Prelude.{◌≡◌, ◌≢◌, ℕ, ℤ, pos, ◌<◌, List, [], ◌∷◌}
+use Rattle.std.specs.Prelude.{◌≡◌, ℕ, ℤ, pos, List, [], ◌∷◌}
 use Rattle.std.proofs.Common.{arith, refl}
 use Rattle.dsm_base.specs.declared.names.Lock.{Lock}
 use Rattle.dsm_base.specs.declared.names.Bar.{Bar}

@@ -1,6 +1,6 @@
 -- Two neighbouring turns of different processors change places, where the later one doesn't rest on the earlier one.
-use Rattle.std.specs.Prelude.{◌≡◌, ◌≢◌, ℕ, ℤ, ◌+◌, ◌<◌, ◌≤◌, nat_lt, Bool, true, false, ◌&&◌, ◌||◌, ◌==◌, not, if◌then◌else◌, List, [], ◌∷◌, Option, Some, None, is_some}
-use Rattle.std.proofs.Common.{arith, refl, ap, sym, subst, ◌∙◌, ⊎_elim}
+use Rattle.std.specs.Prelude.{◌≡◌, ◌≢◌, ℕ, ℤ, ◌+◌, ◌<◌, ◌≤◌, nat_lt, Bool, true, false, ◌&&◌, ◌||◌, ◌==◌, if◌then◌else◌, List, ◌∷◌, Option, Some, None, is_some}
+use Rattle.std.proofs.Common.{arith, refl, sym, subst, ◌∙◌}
 use Rattle.std.proofs.Math.Path.{fun_ext}
 use Rattle.dsm_base.specs.declared.names.Lock.{Lock}
 use Rattle.dsm_base.specs.declared.names.Bar.{Bar}
@@ -9,21 +9,21 @@ use Rattle.dsm_base.specs.declared.names.Mode.{Mode}
 use Rattle.dsm_base.specs.declared.label.Label.{Label}
 use Rattle.dsm_base.specs.declared.label.Want.{Want}
 use Rattle.dsm_base.specs.declared.setup.Setup.{Setup}
-use Rattle.dsm_base.specs.Family.{update, all_below}
+use Rattle.dsm_base.specs.Family.{update}
 use Rattle.dsm_base.specs.Access.{is_exclusive}
 use Rattle.dsm_base.specs.Threads.{Semantics}
-use Rattle.dsm_base.specs.Plain.{PlainState, Turn, IsPlainRun, IsPlainTurn, after_run, plain_after, plain_turn, plain_turn_of, memory_after, held_after, versions_after, arrived_after, crossed_after, can_take, can_cross, may_stand_beside}
+use Rattle.dsm_base.specs.Plain.{PlainState, Turn, IsPlainRun, after_run, plain_after, plain_turn, plain_turn_of, memory_after, held_after, versions_after, arrived_after, crossed_after, can_take, can_cross, may_stand_beside}
 use Rattle.dsm_laws_runs.specs.Versions.{AllAskFirst, IsCellOf, SameAt, makes_version, memory_at}
 use Rattle.dsm_trace.specs.OneMemory.{BindsLocksOnly}
 use Rattle.dsm_laws_runs.specs.Swap.{rests_on, clashes, AreFree, ChangePlaces}
-use Rattle.dsm_laws_runs.proofs.Families.{all_at, all_from, update_swap}
-use Rattle.dsm_laws_runs.proofs.OwnPart.{other_thread, other_held, other_arrived, other_crossed}
+use Rattle.dsm_laws_runs.proofs.Families.{all_at, all_from}
+use Rattle.dsm_laws_runs.proofs.OwnPart.{other_thread, other_held, other_crossed}
 use Rattle.dsm_laws_runs.proofs.Turns.{takes_of}
 use Rattle.dsm_laws_runs.proofs.Asking.{takes_when_free}
 use Rattle.dsm_laws_runs.proofs.Exclusion.{beside_of, exclusive_alone, taken_beside}
 use Rattle.dsm_laws_runs.proofs.Versions.{version_step, version_kept}
 use Rattle.dsm_laws_runs.proofs.Access.{BoundTo, stored_bound, stores_hold, loads_hold}
-use Rattle.dsm_laws_runs.proofs.Copies.{kept_memory}
+use Rattle.dsm_laws_runs.proofs.OtherTurn.{kept_memory}
 
 -- a state in which p's turn is the same as in another: what the label depends on is the same, and what was possible is possible
 record SameFor {S : Type 0} (procs : ℕ) (s t : PlainState S) (p : ℕ) (label : Label) : Type 0 where

@@ -26,14 +26,14 @@ pub fn own_part<T: Task>()
 
 /// Two processors hold one lock only where both hold it shared.
 pub fn exclusive_holds<T: Task>()
-    ensures { (setup : Setup) (first : ℕ → T.State) (run : List Turn) → IsPlainRun setup first T.semantics run → (p q lock : ℕ) (one other : Mode) → p ≢ q → (after_run first T.semantics run).held p lock ≡ Some one → (after_run first T.semantics run).held q lock ≡ Some other → (one ≡ Mode.Shared) × (other ≡ Mode.Shared) }
+    ensures { (setup : Setup) (first : ℕ → T.State) (run : List Turn) → IsPlainRun setup first T.semantics run → let s = after_run first T.semantics run in (p q lock : ℕ) (one other : Mode) → p ≢ q → s.held p lock ≡ Some one → s.held q lock ≡ Some other → (one ≡ Mode.Shared) × (other ≡ Mode.Shared) }
 {}
 
 /// The version of a lock is the number of its exclusive holds that were given back, and where nobody
 /// holds it exclusively its cells are as they were when that version was made.
 pub fn lock_versions<T: Task>()
     ensures count { (first : ℕ → T.State) (run : List Turn) (lock : ℕ) → (after_run first T.semantics run).versions lock ≡ versions_made first T.semantics run lock }
-    ensures memory { (setup : Setup) (first : ℕ → T.State) (run : List Turn) → AllAskFirst setup first T.semantics → IsPlainRun setup first T.semantics run → (lock : ℕ) → ((q : ℕ) → is_exclusive ((after_run first T.semantics run).held q lock) ≡ false) → SameAt setup lock (after_run first T.semantics run).memory (memory_at first T.semantics run lock ((after_run first T.semantics run).versions lock)) }
+    ensures memory { (setup : Setup) (first : ℕ → T.State) (run : List Turn) → AllAskFirst setup first T.semantics → IsPlainRun setup first T.semantics run → let s = after_run first T.semantics run in (lock : ℕ) → ((q : ℕ) → is_exclusive (s.held q lock) ≡ false) → SameAt setup lock s.memory (memory_at first T.semantics run lock (s.versions lock)) }
 {}
 
 /// Where each take brings its lock's cells as they were when its version was made, every processor
