@@ -1,0 +1,5 @@
+pub mod OwnPart
+pub mod Versions
+pub mod Steps
+pub mod Agreement
+pub mod Swap
