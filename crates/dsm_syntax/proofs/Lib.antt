@@ -8,3 +8,4 @@ pub mod Cuts
 pub mod Turns
 pub mod Laws
 pub mod Continuations
+pub mod Refusals
