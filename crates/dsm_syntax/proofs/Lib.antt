@@ -9,3 +9,4 @@ pub mod Turns
 pub mod Laws
 pub mod Continuations
 pub mod Refusals
+pub mod Slices
