@@ -16,3 +16,6 @@ pub use lexer::lex;
 pub use sign::Sign;
 pub use token::{Token, TokenKind, Tokens};
 pub use word::Word;
+
+#[cfg(test)]
+mod tests;
