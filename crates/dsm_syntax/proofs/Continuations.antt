@@ -81,7 +81,7 @@ cut_on text items rest more l t = record { whole = ap (λ v. v ++ more) t.whole 
 
 -- ---- faults that go on
 
-abbrev FaultOn : ℕ → List ℕ → Type 0
+abbrev pub FaultOn : ℕ → List ℕ → Type 0
 FaultOn line text = (e : ProgErr) × IsFault line text e
 
 follow : (v : List ℕ) (b : ℕ) (rest more text : List ℕ) → text ≡ v ++ b ∷ rest → text ++ more ≡ v ++ b ∷ (rest ++ more)
@@ -136,7 +136,7 @@ long_on line v more n l =
     (_, too_long (v ++ s.front) s.rest (ap (λ t. v ++ t) s.whole ∙ sym (append_assoc v s.front s.rest)) (more_name v s.front n s.all) s.stops (omega (arith, l, length-append v s.front)))
 
 -- a fault that isn't the end's stays one, and one of the end is a string or a comment
-fault_on : (line : ℕ) (text more : List ℕ) (e : ProgErr) → IsFault line text e → FaultOn line (text ++ more) ⊎ (IsOpenString text ⊎ IsOpenComment text)
+pub fault_on : (line : ℕ) (text more : List ℕ) (e : ProgErr) → IsFault line text e → FaultOn line (text ++ more) ⊎ (IsOpenString text ⊎ IsOpenComment text)
 fault_on line text more _ (stray b rest w h) = inl (_, stray b (rest ++ more) (ap (λ t. t ++ more) w) h)
 fault_on line text more _ (glued digits b rest w n h) = inl (_, glued digits b (rest ++ more) (follow digits b rest more text w) n h)
 fault_on line text more _ (broken_string held b rest w a h q) = inl (_, broken_string held b (rest ++ more) (follow (34 ∷ held) b rest more text w) a h q)
@@ -168,7 +168,7 @@ is_token_piece block_comment text bytes rest e t f n = n ((t.0 ++ 42 ∷ 47 ∷ 
 is_token_piece (token k) text bytes rest e t f n = tt
 
 -- after 65,536 tokens a text that begins a token, right or wrong, is refused
-refused_at_token : (text : List ℕ) (items : List Item) (b : ℕ) (rest : List ℕ) → length text ≤ 262144 → IsCut text items (b ∷ rest) → length (tokens_of 0 1 items) ≡ 65536 → is_blank b ≡ false → ¬ BeginsComment (b ∷ rest) → (e : ProgErr) × IsRefused text e
+pub refused_at_token : (text : List ℕ) (items : List Item) (b : ℕ) (rest : List ℕ) → length text ≤ 262144 → IsCut text items (b ∷ rest) → length (tokens_of 0 1 items) ≡ 65536 → is_blank b ≡ false → ¬ BeginsComment (b ∷ rest) → (e : ProgErr) × IsRefused text e
 refused_at_token text items b rest s c n f h = of (decided (1 + lines_in (written items)) b rest)
   where
     of : Decided (1 + lines_in (written items)) (b ∷ rest) → (e : ProgErr) × IsRefused text e

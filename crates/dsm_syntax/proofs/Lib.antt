@@ -6,5 +6,8 @@ pub mod Readings
 pub mod Decisions
 pub mod Cuts
 pub mod Turns
-pub mod Laws
+pub mod Outcomes
 pub mod Continuations
+pub mod Refusals
+pub mod Slices
+pub mod Completions

@@ -73,7 +73,7 @@ number_by line text len =
     cond ((slice_index text 0 == 48 && nat_lt 1 len) || is_name_byte (slice_index text len)) (Err (err.BadByte line))
     (cond (nat_le (decimal (take len text)) 9223372036854775807) (found (s.Number (pos (decimal (take len text)))) len) (Err (err.LiteralTooLarge line)))
 
-digits_of : (w : List ℕ) → IsNumber w → AllAre is_ascii_digit w
+pub digits_of : (w : List ℕ) → IsNumber w → AllAre is_ascii_digit w
 digits_of [] n = absurd n
 digits_of (b ∷ []) n = (n, tt)
 digits_of (b ∷ c ∷ w) n = n.1

@@ -6,3 +6,4 @@ pub mod Faults
 pub mod Texts
 pub mod Fronts
 pub mod Ends
+pub mod Places

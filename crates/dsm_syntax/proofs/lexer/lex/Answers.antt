@@ -1,5 +1,5 @@
 use Rattle.std.proofs.Common.{inr}
-use Rattle.dsm_syntax.proofs.Laws.{answers_text, answers_fault}
+use Rattle.dsm_syntax.proofs.Outcomes.{answers_text, answers_fault}
 use Rattle.dsm_syntax.proofs.Turns.{refused_long}
 use Rattle.dsm_syntax.proofs.lexer.lex.Goals as goal
 
