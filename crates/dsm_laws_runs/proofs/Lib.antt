@@ -1,0 +1,10 @@
+pub mod Families
+pub mod OwnPart
+pub mod Turns
+pub mod Asking
+pub mod Exclusion
+pub mod Versions
+pub mod Access
+pub mod Memory
+pub mod Steps
+pub mod Copies

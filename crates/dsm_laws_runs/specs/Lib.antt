@@ -1,0 +1,4 @@
+pub mod OwnPart
+pub mod Versions
+pub mod Steps
+pub mod Agreement
