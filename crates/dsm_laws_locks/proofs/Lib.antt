@@ -1,0 +1,3 @@
+pub mod Holders
+pub mod Places
+pub mod Moves
