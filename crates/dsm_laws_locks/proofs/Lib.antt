@@ -1,3 +1,5 @@
 pub mod Holders
 pub mod Places
 pub mod Moves
+pub mod Turns
+pub mod Desks

@@ -192,6 +192,16 @@ brings_kept P Q f (Holding mode) h = tt
 brings_kept P Q f (Left mode saved next) h = makes_kept P Q f mode saved h
 brings_kept P Q f (Leaving mode saved next) h = makes_kept P Q f mode saved h
 
+pub asks_brought : (P : Saved → Type 0) (mode : Mode) (place : Place) → Brings P place → Brings P (after_ask mode place)
+asks_brought P mode (Out next) h = tt
+asks_brought P mode (Asked other) h = tt
+asks_brought P mode (Queued other) h = tt
+asks_brought P mode (Granted other saved) h = h
+asks_brought P mode (Mailed other saved) h = h
+asks_brought P mode (Holding other) h = tt
+asks_brought P mode (Left other saved next) h = h
+asks_brought P mode (Leaving other saved next) h = h
+
 -- where no hold of a processor is known nothing is brought to it
 pub brings_nothing : (lock q n : ℕ) (x : Side) (P : Saved → Type 0) (place : Place) → x ≡ side_at lock q n place → ((mode : Mode) (modes : List Mode) → x.modes ≡ mode ∷ modes → ⊥) → Brings P place
 brings_nothing lock q n x P (Out next) e none = tt

@@ -1,0 +1,1 @@
+-- What comes to a lock's home, and what it grants, keeps the rights of the lock sound.
