@@ -8,9 +8,9 @@ use Rattle.dsm_trace.specs.declared.message.MailGrant.{MailGrant}
 use Rattle.dsm_trace.specs.declared.lock.Holder.{Holder}
 use Rattle.dsm_trace.specs.declared.lock.Waiting.{Waiting}
 use Rattle.dsm_trace.specs.declared.lock.LockState.{LockState}
-use Rattle.dsm_trace.specs.Locks.{is_compatible, holder_of, without_holder, version_after, cells_after}
+use Rattle.dsm_trace.specs.Locks.{is_compatible, holder_of, without_holder, version_after, cells_after, is_empty, is_granted as may_be_granted, granted_by_ask, asked, front_of, behind_front, granted_by_give, given}
 use Rattle.dsm_trace.specs.Effects.{processor_named, own_grant}
-use Rattle.dsm_laws_locks.proofs.Holders.{modes_of, waits_of, waiting_modes, are_compatible, modes_append, waits_append, modes_granted, modes_without, modes_without_other, compatible_append, without_are_compatible, are_all_shared, without_shared}
+use Rattle.dsm_laws_locks.proofs.Holders.{modes_of, waits_of, waiting_modes, are_compatible, modes_append, waits_append, modes_granted, modes_without, modes_without_other, compatible_append, without_are_compatible, are_all_shared, without_shared, are_compatible_one, weak_compatible, front_behind, front_compatible, front_shared}
 use Rattle.dsm_laws_locks.proofs.Places.{Word, Asks, Gives, Grants, View, Side, side_of, Saved, Place, Out, Asked, Queued, Granted, Mailed, Holding, Left, Leaving, request, side_at, nothing_seen, IsCurrent, Makes, Brings, IsSound}
 use Rattle.dsm_laws_locks.proofs.Moves.{one_changed, IsGranted, is_granted, IsRequest, is_request, IsRelease, is_release}
 
@@ -239,8 +239,13 @@ served_brings P is_home saved [] place h now = h
 served_brings P true saved (w ∷ ws) place h now = now (λ e. cc)
 served_brings P false saved (w ∷ ws) place h now = now (λ e. cc)
 
+-- with the places of all rights
+pub record Sound (IsVersion : ℕ → List CellValue → Type 0) (newest lock : ℕ) (v : View) : Type 0 where
+  pub places : ℕ → Place
+  pub sound : IsSound IsVersion newest lock v places
+
 module _ {IsVersion : ℕ → List CellValue → Type 0} (newest lock : ℕ) (v : View) (places : ℕ → Place) (sound : IsSound IsVersion newest lock v places) (me : ℕ) where
-  pub served : (ws left : List Waiting) → v.desk.queue ≡ ws ++ left → are_compatible (v.desk.holders ++ map holder_of ws) ≡ true → (ws ≢ [] → is_compatible v.desk.holders Mode.Shared ≡ true) →
+  served : (ws left : List Waiting) → v.desk.queue ≡ ws ++ left → are_compatible (v.desk.holders ++ map holder_of ws) ≡ true → (ws ≢ [] → is_compatible v.desk.holders Mode.Shared ≡ true) →
       IsSound IsVersion newest lock (with_grants me lock ws (record v.desk { holders = v.desk.holders ++ map holder_of ws; queue = left }) v)
       (λ x. served_at (x == me) (saved_of v.desk) (waits_of x ws) (places x))
   served ws left e all shared = record {
@@ -255,3 +260,50 @@ module _ {IsVersion : ℕ → List CellValue → Type 0} (newest lock : ℕ) (v 
     is_version = sound.is_version;
     is_newest = λ s. sound.is_newest (compatible_append v.desk.holders (map holder_of ws) Mode.Shared s);
   }
+
+  pub all_served : (ws left : List Waiting) → v.desk.queue ≡ ws ++ left → are_compatible (v.desk.holders ++ map holder_of ws) ≡ true → (ws ≢ [] → is_compatible v.desk.holders Mode.Shared ≡ true) →
+      Sound IsVersion newest lock (with_grants me lock ws (record v.desk { holders = v.desk.holders ++ map holder_of ws; queue = left }) v)
+  all_served ws left e all shared = record { places = λ x. served_at (x == me) (saved_of v.desk) (waits_of x ws) (places x); sound = served ws left e all shared }
+
+-- A request and a release are handled.
+
+empty_queue : (queue : List Waiting) → is_empty queue ≡ true → queue ≡ []
+empty_queue [] e = refl
+empty_queue (w ∷ ws) e = absurd (true≢false (sym e))
+
+module _ {IsVersion : ℕ → List CellValue → Type 0} (newest lock : ℕ) (v : View) (places : ℕ → Place) (sound : IsSound IsVersion newest lock v places) (me q : ℕ) where
+  abbrev pub handled_view : List Waiting → LockState → View
+  handled_view ws state = with_grants me lock ws state (record v { in_hand = update v.in_hand q false })
+
+  -- at once where it may be, and else behind those who wait
+  pub ask_handled : (mode : Mode) → places q ≡ Asked mode →
+      Sound IsVersion newest lock (handled_view (granted_by_ask v.desk (next_waiting q (v.turns q) mode)) (asked v.desk (next_waiting q (v.turns q) mode)))
+  ask_handled mode is = go (is_empty v.desk.queue) refl (is_compatible v.desk.holders mode) refl
+    where
+      waits : IsSound IsVersion newest lock (record v { desk = record v.desk { queue = v.desk.queue ++ next_waiting q (v.turns q) mode ∷ [] }; in_hand = update v.in_hand q false }) (update places q (Queued mode))
+      waits = enqueued newest lock v places sound q mode is
+
+      not_now : Sound IsVersion newest lock (handled_view [] (record v.desk { queue = v.desk.queue ++ next_waiting q (v.turns q) mode ∷ [] }))
+      not_now =
+          subst (λ hs. Sound IsVersion newest lock (handled_view [] (record v.desk { holders = hs; queue = v.desk.queue ++ next_waiting q (v.turns q) mode ∷ [] }))) (append-nil v.desk.holders)
+          (all_served newest lock _ _ waits me [] (v.desk.queue ++ next_waiting q (v.turns q) mode ∷ []) refl (rw append-nil sound.compatible) (λ n. absurd (n refl)))
+
+      go : (a : Bool) → is_empty v.desk.queue ≡ a → (b : Bool) → is_compatible v.desk.holders mode ≡ b →
+          Sound IsVersion newest lock (handled_view (granted_by_ask v.desk (next_waiting q (v.turns q) mode)) (asked v.desk (next_waiting q (v.turns q) mode)))
+      go false e b c = rw e not_now
+      go true e false c = rw (e, c) not_now
+      go true e true c =
+          let none : v.desk.queue ≡ [] = empty_queue v.desk.queue e in
+          rw (e, c) (
+            subst (λ queue. Sound IsVersion newest lock (handled_view (next_waiting q (v.turns q) mode ∷ []) (record v.desk { holders = v.desk.holders ++ holder_of (next_waiting q (v.turns q) mode) ∷ []; queue = queue }))) (sym none)
+            (all_served newest lock _ _ waits me (next_waiting q (v.turns q) mode ∷ []) [] (ap (λ queue. queue ++ next_waiting q (v.turns q) mode ∷ []) none)
+              (are_compatible_one v.desk.holders (holder_of (next_waiting q (v.turns q) mode)) sound.compatible c) (λ n. weak_compatible v.desk.holders mode c)))
+
+  pub give_handled : (mode : Mode) (saved : Saved) (next : Option Mode) → places q ≡ Left mode saved next →
+      Sound IsVersion newest lock (handled_view (granted_by_give v.desk q) (given v.desk q mode saved.version saved.cells))
+  give_handled mode saved next is =
+      all_served newest lock _ _ (unheld newest lock v places sound q mode saved next is) me
+      (front_of (without_holder q v.desk.holders) v.desk.queue) (behind_front (without_holder q v.desk.holders) v.desk.queue)
+      (sym (front_behind (without_holder q v.desk.holders) v.desk.queue))
+      (front_compatible (without_holder q v.desk.holders) v.desk.queue (without_are_compatible q v.desk.holders sound.compatible))
+      (front_shared (without_holder q v.desk.holders) v.desk.queue)
