@@ -3,3 +3,4 @@ pub mod Places
 pub mod Moves
 pub mod Turns
 pub mod Desks
+pub mod Views
