@@ -4,3 +4,5 @@ pub mod Moves
 pub mod Turns
 pub mod Desks
 pub mod Views
+pub mod Wants
+pub mod Labels
