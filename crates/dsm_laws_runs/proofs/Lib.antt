@@ -8,3 +8,4 @@ pub mod Access
 pub mod Memory
 pub mod Steps
 pub mod Copies
+pub mod Swap

@@ -2,3 +2,4 @@ pub mod OwnPart
 pub mod Versions
 pub mod Steps
 pub mod Agreement
+pub mod Swap

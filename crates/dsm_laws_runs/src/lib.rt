@@ -13,5 +13,4 @@ use dsm_base::Task;
 /// agrees with the run: at each lock that it holds its own copy has the memory's values.
 pub fn agreement<T: Task>()
     ensures { (setup : Setup) (first : ℕ → T.State) (steps : List Step) → IsLockRun setup first T.semantics steps → Agreement setup first T.semantics steps }
-{
-}
+{}
