@@ -6,3 +6,5 @@ pub mod Desks
 pub mod Views
 pub mod Wants
 pub mod Labels
+pub mod Routes
+pub mod Changes
