@@ -8,3 +8,5 @@ pub mod Wants
 pub mod Labels
 pub mod Routes
 pub mod Changes
+pub mod Saved
+pub mod Own
