@@ -10,3 +10,4 @@ pub mod Routes
 pub mod Changes
 pub mod Saved
 pub mod Own
+pub mod Taking
