@@ -11,3 +11,4 @@ pub mod Changes
 pub mod Saved
 pub mod Own
 pub mod Taking
+pub mod Reached
