@@ -12,3 +12,4 @@ pub mod Saved
 pub mod Own
 pub mod Taking
 pub mod Reached
+pub mod Steps

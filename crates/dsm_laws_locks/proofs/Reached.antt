@@ -51,6 +51,9 @@ pub record IsLocked {S : Type 0} (setup : Setup) (first : ℕ → S) (threads : 
 pub sounds : {IsVersion : ℕ → List CellValue → Type 0} {lock : ℕ} (n m : ℕ) (v w : View) (places : ℕ → Place) → n ≡ m → v ≡ w → IsSound IsVersion n lock v places → Sound IsVersion m lock w
 sounds {IsVersion} {lock} n m v w places e d h = record { places = places; sound = subst (λ x. IsSound IsVersion m lock x places) d (subst (λ x. IsSound IsVersion x lock v places) e h) }
 
+pub same_sound : {IsVersion : ℕ → List CellValue → Type 0} {newest lock : ℕ} {v w : View} → v ≡ w → Sound IsVersion newest lock v → Sound IsVersion newest lock w
+same_sound {IsVersion} {newest} {lock} e h = subst (λ x. Sound IsVersion newest lock x) e h
+
 -- at a lock the turn changes nothing of one's right
 pub record IsStillAt {S : Type 0} (lock : ℕ) (label : Label) (versions : ℕ → ℕ) (s : Processor S) : Type 0 where
   pub no_take : taken_in lock label ≡ None

@@ -1,0 +1,211 @@
+-- A turn with what it sends or handles at home keeps the rights of every lock sound.
+use Rattle.std.specs.Prelude.{◌≡◌, ◌≢◌, ℕ, ◌+◌, ◌<◌, ◌==◌, Bool, true, false, nat_lt, if◌then◌else◌, List, [], ◌∷◌, ◌++◌, filter, Option, Some, None, is_some}
+use Rattle.std.proofs.Common.{arith, refl, sym, ap, ap₂, ◌∙◌, subst, inl, inr, append-nil, true≢false}
+use Rattle.std.proofs.lemmas.Bool.Decides.{eqb_tells}
+use Rattle.dsm_base.specs.declared.names.Lock.{Lock}
+use Rattle.dsm_base.specs.declared.names.Mode.{Mode}
+use Rattle.dsm_base.specs.declared.label.Label.{Label}
+use Rattle.dsm_base.specs.declared.label.Want.{Want}
+use Rattle.dsm_base.specs.declared.setup.Setup.{Setup}
+use Rattle.dsm_base.specs.Family.{update}
+use Rattle.dsm_base.specs.Access.{is_exclusive}
+use Rattle.dsm_base.specs.Threads.{Semantics}
+use Rattle.dsm_base.specs.Plain.{Turn, PlainState, after_run, plain_turn, held_after, versions_after}
+use Rattle.dsm_trace.specs.declared.message.Body.{Body}
+use Rattle.dsm_trace.specs.declared.message.Msg.{Msg}
+use Rattle.dsm_trace.specs.declared.message.CellValue.{CellValue}
+use Rattle.dsm_trace.specs.declared.message.MailGrant.{MailGrant}
+use Rattle.dsm_trace.specs.declared.lock.Waiting.{Waiting}
+use Rattle.dsm_trace.specs.declared.lock.LockState.{LockState}
+use Rattle.dsm_trace.specs.Locks.{home_of, cells_of, values_of, asked, granted_by_ask, given, granted_by_give}
+use Rattle.dsm_trace.specs.Processor.{Processor, Deed, grant_for, is_ready, version_of, own_view, processor_after, mail_after}
+use Rattle.dsm_trace.specs.Effects.{message, granted, grant_message, waiting_of, body_of, lock_in}
+use Rattle.dsm_trace.specs.Told.{Told}
+use Rattle.dsm_trace.proofs.Deeds.{IsLeftBy}
+use Rattle.dsm_trace.proofs.Units.{sent_all, next_by_step}
+use Rattle.dsm_laws_runs.specs.Versions.{makes_version}
+use Rattle.dsm_laws_runs.specs.Steps.{Step, turns_of, deeds_by}
+use Rattle.dsm_laws_locks.proofs.Places.{Word, Asks, Gives, word_of, Place, Asked, Left, Leaving, View, side_of, Saved, mail_of, taking_of, IsCurrent, Makes, IsSound}
+use Rattle.dsm_laws_locks.proofs.Moves.{after_ask, IsMailed, is_mailed}
+use Rattle.dsm_laws_locks.proofs.Turns.{ask_sent, ask_kept, took, gave_shared, gave_exclusive}
+use Rattle.dsm_laws_locks.proofs.Desks.{Sound, next_waiting, with_grants, ask_handled, give_handled, release_sent}
+use Rattle.dsm_laws_locks.proofs.Views.{view_of, IsSameView, same_view, with_processor, granting, granting_view, granting_other, with_words, words_between, sent_view, no_words_view}
+use Rattle.dsm_laws_locks.proofs.Changes.{turned_view, turn_view, mail_filter}
+use Rattle.dsm_laws_locks.proofs.Routes.{IsRoute, IsRouted, none_to_self, sent_routed, processors_routed, grants_routed}
+use Rattle.dsm_laws_locks.proofs.Wants.{ask_free, give_held, take_wanted, asked_in, taken_in}
+use Rattle.dsm_laws_locks.proofs.Saved.{IsSaved, saved_later, saved_made}
+use Rattle.dsm_laws_locks.proofs.Own.{same_copy, newest_held, IsOwnTurn}
+use Rattle.dsm_laws_locks.proofs.Taking.{IsTaken, is_taken}
+use Rattle.dsm_laws_locks.proofs.Reached.{AreSound, IsReached, IsLocked, sounds, same_sound, IsStillAt, held_is, taking_before, taking_next, after_turn, still_at}
+
+-- what holds at a lock and at all others holds at all
+at_locks : {P : ℕ → Type 0} (l : ℕ) → P l → ((lock : ℕ) → (l == lock) ≡ false → P lock) → (lock : ℕ) → P lock
+at_locks {P} l here others lock = elim (eqb_tells l lock) [ inl (_, i) ↦ subst P i here | inr (e, _) ↦ others lock e ]
+
+test_here : {A : Type 0} (n : ℕ) (a b : A) → (if n == n then a else b) ≡ a
+test_here n a b = grind arith
+
+-- Views.
+
+-- a message to the lock's home
+to_home_view : (setup : Setup) (lock p turn : ℕ) (body : Body) (v : View) → (lock_in body).0 ≡ lock → (home_of setup lock == p) ≡ false →
+    with_words setup lock (message p (home_of setup lock) turn body ∷ []) v ≡ record v { asks = update v.asks p (v.asks p ++ word_of turn body ∷ []) }
+to_home_view setup lock p turn body v same apart = same_view _ _ record {
+  asks = λ q. elim (eqb_tells q p) [
+      inl (e, i) ↦ rw (e, same, test (home_of setup lock), test lock) (ap (λ x. v.asks x ++ word_of turn body ∷ []) i)
+    | inr (e, _) ↦ rw e (append-nil (v.asks q))
+    ];
+  grants = λ q. rw apart (append-nil (v.grants q));
+  mail = λ q. refl;
+  held = λ q. refl;
+  taking = λ q. refl;
+  turns = λ q. refl;
+  in_hand = λ q. refl;
+  desk = refl;
+}
+  where
+    test : (n : ℕ) → (n == n) ≡ true
+    test n = grind arith
+
+hand_back : (p : ℕ) (in_hand : ℕ → Bool) → ((q : ℕ) → in_hand q ≡ false) → (q : ℕ) → in_hand q ≡ update (update in_hand p true) p false q
+hand_back p in_hand none q = grind (arith, none q)
+
+-- a view in which p has asked, and its request is in hand
+abbrev asking_view : ℕ → Mode → View → View
+asking_view p mode v = record v { taking = update v.taking p (Some mode); turns = update v.turns p (v.turns p + 1); in_hand = update v.in_hand p true }
+
+-- a view in which p has given the lock back, and its release is in hand
+abbrev giving_view : ℕ → View → View
+giving_view p v = record v { held = update v.held p None; turns = update v.turns p (v.turns p + 1); in_hand = update v.in_hand p true }
+
+back_same : {A : Type 0} (f : ℕ → A) (p : ℕ) (a : A) → a ≡ f p → (q : ℕ) → update f p a q ≡ f q
+back_same f p a e q = elim (eqb_tells q p) [ inl (t, i) ↦ rw t (e ∙ ap f (sym i)) | inr (t, _) ↦ rw t refl ]
+
+ask_view : (p : ℕ) (mode : Mode) (v : View) → ((q : ℕ) → v.in_hand q ≡ false) →
+    turned_view p (v.mail p) (v.held p) (Some mode) v ≡ record (asking_view p mode v) { in_hand = update (asking_view p mode v).in_hand p false }
+ask_view p mode v none = same_view _ _ record {
+  asks = λ q. refl;
+  grants = λ q. refl;
+  mail = back_same v.mail p (v.mail p) refl;
+  held = back_same v.held p (v.held p) refl;
+  taking = λ q. refl;
+  turns = λ q. refl;
+  in_hand = hand_back p v.in_hand none;
+  desk = refl;
+}
+
+give_view : (p : ℕ) (v : View) → ((q : ℕ) → v.in_hand q ≡ false) → v.taking p ≡ None →
+    turned_view p (v.mail p) None None v ≡ record (giving_view p v) { in_hand = update (giving_view p v).in_hand p false }
+give_view p v none t = same_view _ _ record {
+  asks = λ q. refl;
+  grants = λ q. refl;
+  mail = back_same v.mail p (v.mail p) refl;
+  held = λ q. refl;
+  taking = back_same v.taking p None (sym t);
+  turns = λ q. refl;
+  in_hand = hand_back p v.in_hand none;
+  desk = refl;
+}
+
+module _ {S : Type 0} (setup : Setup) (first : ℕ → S) (threads : Semantics S) (locked : IsLocked setup first threads) (steps : List Step) (t : Told S) (reached : IsReached setup first threads steps t)
+    (left : (q : ℕ) → IsLeftBy threads (first q) (deeds_by q steps) (t.processors q)) (p : ℕ) (lt : p < setup.procs) where
+  abbrev s : Processor S
+  s = t.processors p
+
+  abbrev run : List Turn
+  run = turns_of steps
+
+  abbrev after_label : Label → List CellValue → Processor S
+  after_label label cells = processor_after threads s label cells
+
+  -- what holds once p has made a turn with this label
+  pub record IsTurned (label : Label) (after : Told S) : Type 0 where
+    pub is_routed : IsRouted setup after
+    pub sound : AreSound setup first threads (record { proc = p; label = label } ∷ turns_of steps) after
+
+  still_turn : (label : Label) (cells : List CellValue) → IsOwnTurn setup threads p s record { label = label; cells = cells } →
+      ((lock : ℕ) → IsStillAt lock label (after_run first threads (turns_of steps)).versions s) → IsTurned label (with_processor t p (after_label label cells))
+  still_turn label cells own still = record {
+    is_routed = processors_routed setup t _ reached.is_routed;
+    sound = λ lock. still_at setup first threads locked steps t reached left p lt label cells own lock (still lock);
+  }
+
+  -- Asks.
+
+  ask_still : (lock : Lock) (mode : Mode) (l : ℕ) → (lock.0 == l) ≡ false → IsStillAt l (Label.Ask lock mode) (after_run first threads (turns_of steps)).versions s
+  ask_still lock mode l ne = record { no_take = refl; no_ask = rw ne refl; same_mail = refl; same_hold = refl; same_version = refl }
+
+  module _ (lock : Lock) (mode : Mode) (cells : List CellValue) (own : IsOwnTurn setup threads p s record { label = Label.Ask lock mode; cells = cells }) where
+    abbrev v_ask : View
+    v_ask = view_of setup threads t lock.0
+
+    ask_not_taking : v_ask.taking p ≡ None
+    ask_not_taking = taking_before setup first threads locked steps t reached left p lt (Label.Ask lock mode) cells own lock.0
+
+    ask_not_held : v_ask.held p ≡ None
+    ask_not_held = ask_free setup.bindings p (own_view s) (threads.text s.thread) (threads.want s.thread) lock mode own.is_label
+
+    ask_turned : view_of setup threads (with_processor t p (after_label (Label.Ask lock mode) cells)) lock.0 ≡ turned_view p (v_ask.mail p) (v_ask.held p) (Some mode) v_ask
+    ask_turned =
+        turn_view setup threads t p (Label.Ask lock mode) cells lock.0 (taking_next setup first threads locked steps t reached left p lt (Label.Ask lock mode) cells own lock.0)
+        ∙ ap (λ taking. turned_view p (v_ask.mail p) (v_ask.held p) taking v_ask) (test_here lock.0 (Some mode) None)
+
+    ask_others : (l : ℕ) → (lock.0 == l) ≡ false → Sound (IsSaved setup first threads (record { proc = p; label = Label.Ask lock mode } ∷ turns_of steps) l)
+        ((after_run first threads (record { proc = p; label = Label.Ask lock mode } ∷ turns_of steps)).versions l) l (view_of setup threads (with_processor t p (after_label (Label.Ask lock mode) cells)) l)
+    ask_others l ne = still_at setup first threads locked steps t reached left p lt (Label.Ask lock mode) cells own l (ask_still lock mode l ne)
+
+    -- the request is sent
+    ask_away : (home_of setup lock.0 == p) ≡ false → (home_of setup lock.0 ≢ p) → IsTurned (Label.Ask lock mode) (next_by_step setup threads t p (Some record { label = Label.Ask lock mode; cells = cells }))
+    ask_away apart ne = rw apart (record {
+      is_routed = sent_routed setup _ (message p (home_of setup lock.0) (s.turns + 1) (Body.Req lock mode) ∷ []) (record { apart = λ i. ne (sym i); heads = refl }, tt) (processors_routed setup t _ reached.is_routed);
+      sound = at_locks lock.0
+          (sounds _ _ _ _ _ refl
+            (sym (sent_view setup threads lock.0 (with_processor t p (after_label (Label.Ask lock mode) cells)) (message p (home_of setup lock.0) (s.turns + 1) (Body.Req lock mode) ∷ [])
+              ∙ ap (with_words setup lock.0 (message p (home_of setup lock.0) (s.turns + 1) (Body.Req lock mode) ∷ [])) (ask_turned ∙ still_ask)
+              ∙ to_home_view setup lock.0 p (s.turns + 1) (Body.Req lock mode) (record v_ask { taking = update v_ask.taking p (Some mode); turns = update v_ask.turns p (v_ask.turns p + 1) }) refl apart))
+            (ask_sent (saved_later setup first threads record { proc = p; label = Label.Ask lock mode } (turns_of steps) lock.0) _ lock.0 v_ask _ (reached.sound lock.0).sound p mode ask_not_taking ask_not_held refl))
+          (λ l other. same_sound
+            (sym (sent_view setup threads l (with_processor t p (after_label (Label.Ask lock mode) cells)) (message p (home_of setup lock.0) (s.turns + 1) (Body.Req lock mode) ∷ [])
+              ∙ no_words_view setup l (message p (home_of setup lock.0) (s.turns + 1) (Body.Req lock mode) ∷ []) _ (other, tt)))
+            (ask_others l other));
+    })
+      where
+        still_ask : turned_view p (v_ask.mail p) (v_ask.held p) (Some mode) v_ask ≡ record v_ask { taking = update v_ask.taking p (Some mode); turns = update v_ask.turns p (v_ask.turns p + 1) }
+        still_ask = same_view _ _ record {
+          asks = λ q. refl;
+          grants = λ q. refl;
+          mail = back_same v_ask.mail p (v_ask.mail p) refl;
+          held = back_same v_ask.held p (v_ask.held p) refl;
+          taking = λ q. refl;
+          turns = λ q. refl;
+          in_hand = λ q. refl;
+          desk = refl;
+        }
+
+    -- the request is handled at home
+    ask_home : (home_of setup lock.0 == p) ≡ true → home_of setup lock.0 ≡ p → IsTurned (Label.Ask lock mode) (next_by_step setup threads t p (Some record { label = Label.Ask lock mode; cells = cells }))
+    ask_home e home = rw e (record {
+      is_routed = sent_routed setup _ _ (grants_routed setup p (s.turns + 1) lock (asked (s.locks lock.0) w) (granted_by_ask (s.locks lock.0) w) home) (processors_routed setup t _ reached.is_routed);
+      sound = at_locks lock.0
+          (same_sound
+            (ap₂ (λ d x. with_grants p lock.0 (granted_by_ask d x) (asked d x) (record (asking_view p mode v_ask) { in_hand = update (asking_view p mode v_ask).in_hand p false })) desk turn
+              ∙ ap (with_grants p lock.0 (granted_by_ask (s.locks lock.0) w) (asked (s.locks lock.0) w)) (sym (ask_turned ∙ ask_view p mode v_ask (λ q. refl)))
+              ∙ sym (granting_view setup threads t p (after_label (Label.Ask lock mode) cells) lock (asked (s.locks lock.0) w) (granted_by_ask (s.locks lock.0) w) home))
+            (ask_handled _ lock.0 (asking_view p mode v_ask) (update (reached.sound lock.0).places p (Asked mode))
+              (ask_kept (saved_later setup first threads record { proc = p; label = Label.Ask lock mode } (turns_of steps) lock.0) _ lock.0 v_ask _ (reached.sound lock.0).sound p mode
+                ask_not_taking ask_not_held refl none)
+              p p mode (test_here p (Asked mode) ((reached.sound lock.0).places p))))
+          (λ l other. same_sound (sym (granting_other setup threads t p (after_label (Label.Ask lock mode) cells) lock (asked (s.locks lock.0) w) (granted_by_ask (s.locks lock.0) w) l other)) (ask_others l other));
+    })
+      where
+        w : Waiting
+        w = waiting_of p (s.turns + 1) mode
+
+        desk : v_ask.desk ≡ s.locks lock.0
+        desk = ap (λ x. (t.processors x).locks lock.0) home
+
+        turn : next_waiting p (update v_ask.turns p (v_ask.turns p + 1) p) mode ≡ waiting_of p (s.turns + 1) mode
+        turn = ap (λ n. next_waiting p n mode) (test_here p (v_ask.turns p + 1) (v_ask.turns p))
+
+        none : v_ask.asks p ≡ []
+        none = rw home (rw (none_to_self setup t reached.is_routed p) refl)
