@@ -209,3 +209,126 @@ module _ {S : Type 0} (setup : Setup) (first : ℕ → S) (threads : Semantics S
 
         none : v_ask.asks p ≡ []
         none = rw home (rw (none_to_self setup t reached.is_routed p) refl)
+
+  ask_turn : (lock : Lock) (mode : Mode) (cells : List CellValue) → IsOwnTurn setup threads p s record { label = Label.Ask lock mode; cells = cells } →
+      IsTurned (Label.Ask lock mode) (next_by_step setup threads t p (Some record { label = Label.Ask lock mode; cells = cells }))
+  ask_turn lock mode cells own =
+      elim (eqb_tells (home_of setup lock.0) p) [
+        inl (e, i) ↦ ask_home lock mode cells own e i
+      | inr (e, n) ↦ ask_away lock mode cells own e n
+      ]
+
+  -- Gives.
+
+  give_still : (lock : Lock) (l : ℕ) → (lock.0 == l) ≡ false → IsStillAt l (Label.Give lock) (after_run first threads (turns_of steps)).versions s
+  give_still lock l ne = record { no_take = refl; no_ask = refl; same_mail = refl; same_hold = grind arith; same_version = grind arith }
+
+  module _ (lock : Lock) (cells : List CellValue) (own : IsOwnTurn setup threads p s record { label = Label.Give lock; cells = cells }) where
+    abbrev v_give : View
+    v_give = view_of setup threads t lock.0
+
+    abbrev newest_after : ℕ
+    newest_after = (after_run first threads (record { proc = p; label = Label.Give lock } ∷ turns_of steps)).versions lock.0
+
+    abbrev IsVersion_after : ℕ → List CellValue → Type 0
+    IsVersion_after = IsSaved setup first threads (record { proc = p; label = Label.Give lock } ∷ turns_of steps) lock.0
+
+    give_not_taking : v_give.taking p ≡ None
+    give_not_taking = taking_before setup first threads locked steps t reached left p lt (Label.Give lock) cells own lock.0
+
+    give_turned : view_of setup threads (with_processor t p (after_label (Label.Give lock) cells)) lock.0 ≡ turned_view p (v_give.mail p) None None v_give
+    give_turned =
+        turn_view setup threads t p (Label.Give lock) cells lock.0 (taking_next setup first threads locked steps t reached left p lt (Label.Give lock) cells own lock.0)
+        ∙ ap (λ held. turned_view p (v_give.mail p) held None v_give) (test_here lock.0 None (s.held lock.0))
+
+    give_others : (l : ℕ) → (lock.0 == l) ≡ false → Sound (IsSaved setup first threads (record { proc = p; label = Label.Give lock } ∷ turns_of steps) l)
+        ((after_run first threads (record { proc = p; label = Label.Give lock } ∷ turns_of steps)).versions l) l (view_of setup threads (with_processor t p (after_label (Label.Give lock) cells)) l)
+    give_others l ne = still_at setup first threads locked steps t reached left p lt (Label.Give lock) cells own l (give_still lock l ne)
+
+    module _ (mode : Mode) (saved : Saved) (told : body_of setup s.held (after_label (Label.Give lock) cells) (Label.Give lock) ≡ Some (Body.Release lock mode saved.version saved.cells))
+        (gave : IsSound IsVersion_after newest_after lock.0 (giving_view p v_give) (update (reached.sound lock.0).places p (Left mode saved None))) where
+      -- the release is sent
+      give_away : (home_of setup lock.0 == p) ≡ false → (home_of setup lock.0 ≢ p) → IsTurned (Label.Give lock) (next_by_step setup threads t p (Some record { label = Label.Give lock; cells = cells }))
+      give_away apart ne = rw (told, apart) (record {
+        is_routed = sent_routed setup _ (message p (home_of setup lock.0) (s.turns + 1) (Body.Release lock mode saved.version saved.cells) ∷ []) (record { apart = λ i. ne (sym i); heads = refl }, tt)
+            (processors_routed setup t _ reached.is_routed);
+        sound = at_locks lock.0
+            (sounds _ _ _ _ _ refl
+              (sym (sent_view setup threads lock.0 (with_processor t p (after_label (Label.Give lock) cells)) (message p (home_of setup lock.0) (s.turns + 1) (Body.Release lock mode saved.version saved.cells) ∷ [])
+                ∙ ap (with_words setup lock.0 (message p (home_of setup lock.0) (s.turns + 1) (Body.Release lock mode saved.version saved.cells) ∷ [])) (give_turned ∙ give_view p v_give (λ q. refl) give_not_taking)
+                ∙ to_home_view setup lock.0 p (s.turns + 1) (Body.Release lock mode saved.version saved.cells) (record (giving_view p v_give) { in_hand = update (giving_view p v_give).in_hand p false }) refl apart))
+              (release_sent newest_after lock.0 (giving_view p v_give) _ gave p mode saved (test_here p (Left mode saved None) ((reached.sound lock.0).places p))))
+            (λ l other. same_sound
+              (sym (sent_view setup threads l (with_processor t p (after_label (Label.Give lock) cells)) (message p (home_of setup lock.0) (s.turns + 1) (Body.Release lock mode saved.version saved.cells) ∷ [])
+                ∙ no_words_view setup l (message p (home_of setup lock.0) (s.turns + 1) (Body.Release lock mode saved.version saved.cells) ∷ []) _ (other, tt)))
+              (give_others l other));
+      })
+
+      -- the release is handled at home
+      give_home : (home_of setup lock.0 == p) ≡ true → home_of setup lock.0 ≡ p → IsTurned (Label.Give lock) (next_by_step setup threads t p (Some record { label = Label.Give lock; cells = cells }))
+      give_home e home = rw (told, e) (record {
+        is_routed = sent_routed setup _ _ (grants_routed setup p (s.turns + 1) lock (given (s.locks lock.0) p mode saved.version saved.cells) (granted_by_give (s.locks lock.0) p) home) (processors_routed setup t _ reached.is_routed);
+        sound = at_locks lock.0
+            (same_sound
+              (ap (λ d. with_grants p lock.0 (granted_by_give d p) (given d p mode saved.version saved.cells) (record (giving_view p v_give) { in_hand = update (giving_view p v_give).in_hand p false }))
+                  (ap (λ x. (t.processors x).locks lock.0) home)
+                ∙ ap (with_grants p lock.0 (granted_by_give (s.locks lock.0) p) (given (s.locks lock.0) p mode saved.version saved.cells)) (sym (give_turned ∙ give_view p v_give (λ q. refl) give_not_taking))
+                ∙ sym (granting_view setup threads t p (after_label (Label.Give lock) cells) lock (given (s.locks lock.0) p mode saved.version saved.cells) (granted_by_give (s.locks lock.0) p) home))
+              (give_handled newest_after lock.0 (giving_view p v_give) _ gave p p mode saved None (test_here p (Left mode saved None) ((reached.sound lock.0).places p))))
+            (λ l other. same_sound
+              (sym (granting_other setup threads t p (after_label (Label.Give lock) cells) lock (given (s.locks lock.0) p mode saved.version saved.cells) (granted_by_give (s.locks lock.0) p) l other))
+              (give_others l other));
+      })
+
+      given_back : IsTurned (Label.Give lock) (next_by_step setup threads t p (Some record { label = Label.Give lock; cells = cells }))
+      given_back =
+          elim (eqb_tells (home_of setup lock.0) p) [
+            inl (e, i) ↦ give_home e i
+          | inr (e, n) ↦ give_away e n
+          ]
+
+    abbrev after_give : Processor S
+    after_give = after_label (Label.Give lock) cells
+
+    plain_hold : (mode : Mode) → s.held lock.0 ≡ Some mode → (after_run first threads (turns_of steps)).held p lock.0 ≡ Some mode
+    plain_hold mode h = ap (λ held. held lock.0) (sym (held_is setup first threads locked steps t reached left p lt p)) ∙ h
+
+    give_shared : s.held lock.0 ≡ Some Mode.Shared → IsTurned (Label.Give lock) (next_by_step setup threads t p (Some record { label = Label.Give lock; cells = cells }))
+    give_shared h =
+        given_back Mode.Shared record { version = after_give.versions lock.0; cells = [] } (rw h refl)
+        (subst (λ n. IsSound IsVersion_after n lock.0 (giving_view p v_give) (update (reached.sound lock.0).places p (Left Mode.Shared record { version = after_give.versions lock.0; cells = [] } None)))
+          (sym same_newest)
+          (gave_shared (saved_later setup first threads record { proc = p; label = Label.Give lock } (turns_of steps) lock.0) _ lock.0 v_give _ (reached.sound lock.0).sound p record { version = after_give.versions lock.0; cells = [] } h))
+      where
+        same_newest : newest_after ≡ (after_run first threads (turns_of steps)).versions lock.0
+        same_newest = rw (plain_hold Mode.Shared h) refl
+
+    give_exclusive : s.held lock.0 ≡ Some Mode.Excl → cells ≡ [] → IsTurned (Label.Give lock) (next_by_step setup threads t p (Some record { label = Label.Give lock; cells = cells }))
+    give_exclusive h none =
+        given_back Mode.Excl record { version = after_give.versions lock.0; cells = values_of after_give.copy (cells_of setup lock.0) } (rw h refl)
+        (gave_exclusive (saved_later setup first threads record { proc = p; label = Label.Give lock } (turns_of steps) lock.0) _ lock.0 v_give _ (reached.sound lock.0).sound p
+          newest_after record { version = after_give.versions lock.0; cells = values_of after_give.copy (cells_of setup lock.0) } h
+          record { is_newest = same_newest; is_version = subst (λ n. IsVersion_after n (values_of after_give.copy (cells_of setup lock.0))) (sym same_newest) made })
+      where
+        held_newest : s.versions lock.0 ≡ (after_run first threads (turns_of steps)).versions lock.0
+        held_newest = newest_held setup first threads steps p s (left p) locked.ask_first reached.is_run reached.is_adequate lock.0 Mode.Excl h
+
+        same_newest : after_give.versions lock.0 ≡ newest_after
+        same_newest = rw (h, plain_hold Mode.Excl h) (test_here lock.0 (s.versions lock.0 + 1) (s.versions lock.0) ∙ ap (λ n. n + 1) held_newest
+            ∙ sym (test_here lock.0 ((after_run first threads (turns_of steps)).versions lock.0 + 1) ((after_run first threads (turns_of steps)).versions lock.0)))
+
+        makes : makes_version lock.0 ((after_run first threads (turns_of steps)).held p) (Label.Give lock) ≡ true
+        makes = rw (plain_hold Mode.Excl h) (grind arith)
+
+        made : IsVersion_after newest_after (values_of after_give.copy (cells_of setup lock.0))
+        made = rw none (saved_made setup first threads record { proc = p; label = Label.Give lock } (turns_of steps) lock.0 s.copy makes
+            (same_copy setup first threads steps p s (left p) locked.ask_first reached.is_run reached.is_adequate lock.0 Mode.Excl h))
+
+  give_turn : (lock : Lock) (cells : List CellValue) → IsOwnTurn setup threads p s record { label = Label.Give lock; cells = cells } →
+      IsTurned (Label.Give lock) (next_by_step setup threads t p (Some record { label = Label.Give lock; cells = cells }))
+  give_turn lock cells own = go (s.held lock.0) refl (give_held setup.bindings p (own_view s) (threads.text s.thread) (threads.want s.thread) lock own.is_label)
+    where
+      go : (o : Option Mode) → s.held lock.0 ≡ o → is_some (s.held lock.0) ≡ true → IsTurned (Label.Give lock) (next_by_step setup threads t p (Some record { label = Label.Give lock; cells = cells }))
+      go None e some = absurd (true≢false (sym (rw e at some)))
+      go (Some Mode.Shared) e some = give_shared lock cells own e
+      go (Some Mode.Excl) e some = give_exclusive lock cells own e own.is_cells
