@@ -20,7 +20,7 @@ with_release mode saved x = record x { asks = x.asks ++ Gives mode saved.version
 abbrev with_word_come : List Word → Side → Side
 with_word_come rest x = record x { asks = rest; in_hand = true }
 
-abbrev mail_grant : ℕ → ℕ → Mode → Saved → MailGrant
+abbrev pub mail_grant : ℕ → ℕ → Mode → Saved → MailGrant
 mail_grant lock turn mode saved = record { turn = turn; lock = record { 0 = lock }; mode = mode; version = saved.version; cells = saved.cells }
 
 abbrev with_grant_come : List Word → MailGrant → Side → Side

@@ -13,3 +13,4 @@ pub mod Own
 pub mod Taking
 pub mod Reached
 pub mod Steps
+pub mod Deliveries

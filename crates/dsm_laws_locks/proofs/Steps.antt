@@ -39,10 +39,10 @@ use Rattle.dsm_laws_locks.proofs.Taking.{IsTaken, is_taken}
 use Rattle.dsm_laws_locks.proofs.Reached.{AreSound, IsReached, IsLocked, sounds, same_sound, IsStillAt, held_is, taking_before, taking_next, after_turn, still_at}
 
 -- what holds at a lock and at all others holds at all
-at_locks : {P : ℕ → Type 0} (l : ℕ) → P l → ((lock : ℕ) → (l == lock) ≡ false → P lock) → (lock : ℕ) → P lock
+pub at_locks : {P : ℕ → Type 0} (l : ℕ) → P l → ((lock : ℕ) → (l == lock) ≡ false → P lock) → (lock : ℕ) → P lock
 at_locks {P} l here others lock = elim (eqb_tells l lock) [ inl (_, i) ↦ subst P i here | inr (e, _) ↦ others lock e ]
 
-test_here : {A : Type 0} (n : ℕ) (a b : A) → (if n == n then a else b) ≡ a
+pub test_here : {A : Type 0} (n : ℕ) (a b : A) → (if n == n then a else b) ≡ a
 test_here n a b = grind arith
 
 -- Views.
@@ -67,7 +67,7 @@ to_home_view setup lock p turn body v same apart = same_view _ _ record {
     test : (n : ℕ) → (n == n) ≡ true
     test n = grind arith
 
-hand_back : (p : ℕ) (in_hand : ℕ → Bool) → ((q : ℕ) → in_hand q ≡ false) → (q : ℕ) → in_hand q ≡ update (update in_hand p true) p false q
+pub hand_back : (p : ℕ) (in_hand : ℕ → Bool) → ((q : ℕ) → in_hand q ≡ false) → (q : ℕ) → in_hand q ≡ update (update in_hand p true) p false q
 hand_back p in_hand none q = grind (arith, none q)
 
 -- a view in which p has asked, and its request is in hand
@@ -332,3 +332,77 @@ module _ {S : Type 0} (setup : Setup) (first : ℕ → S) (threads : Semantics S
       go None e some = absurd (true≢false (sym (rw e at some)))
       go (Some Mode.Shared) e some = give_shared lock cells own e
       go (Some Mode.Excl) e some = give_exclusive lock cells own e own.is_cells
+
+  -- Takes.
+
+  -- a lock that isn't taken has nothing in the mailbox
+  no_mail : (l : ℕ) → taking_of l (threads.want s.thread) ≡ None → mail_of l s.mail ≡ []
+  no_mail l none = go (mail_of l s.mail) refl
+    where
+      go : (mail : List MailGrant) → mail_of l s.mail ≡ mail → mail_of l s.mail ≡ []
+      go [] e = e
+      go (g ∷ gs) e =
+          let is : IsMailed l p s.turns (side_of (view_of setup threads t l) p) ((reached.sound l).places p) g gs =
+              is_mailed l p s.turns (side_of (view_of setup threads t l) p) g gs ((reached.sound l).places p) ((reached.sound l).sound.sides p) e in
+          let k : Some g.mode ≡ None = sym is.is_wanted ∙ none in
+          cc
+
+  module _ (lock : Lock) (mode : Mode) (version : ℕ) (cells : List CellValue) (own : IsOwnTurn setup threads p s record { label = Label.Take lock mode version; cells = cells }) where
+    abbrev v_take : View
+    v_take = view_of setup threads t lock.0
+
+    take_still : (l : ℕ) → (lock.0 == l) ≡ false → IsStillAt l (Label.Take lock mode version) (after_run first threads (turns_of steps)).versions s
+    take_still l ne = record {
+      no_take = rw ne refl;
+      no_ask = refl;
+      same_mail =
+          let none : mail_of l s.mail ≡ [] = no_mail l (taking_before setup first threads locked steps t reached left p lt (Label.Take lock mode version) cells own l ∙ rw ne refl) in
+          mail_filter l (λ grant. nat_lt (s.turns + 1) grant.turn) s.mail ∙ rw none refl;
+      same_hold = grind arith;
+      same_version = refl;
+    }
+
+    taken_by : (grant : MailGrant) → IsTaken setup threads t _ reached.sound p lock.0 mode grant →
+        IsTurned (Label.Take lock mode version) (with_processor t p (after_label (Label.Take lock mode version) cells))
+    taken_by grant is = record {
+      is_routed = processors_routed setup t _ reached.is_routed;
+      sound = at_locks lock.0
+          (sounds _ _ _ _ _ refl (sym view)
+            (took (saved_later setup first threads record { proc = p; label = Label.Take lock mode version } (turns_of steps) lock.0) _ lock.0 v_take _ (reached.sound lock.0).sound p grant [] is.is_mail))
+          (λ l other. still_at setup first threads locked steps t reached left p lt (Label.Take lock mode version) cells own l (take_still l other));
+    }
+      where
+        mail : mail_of lock.0 (filter (λ g. nat_lt (s.turns + 1) g.turn) s.mail) ≡ []
+        mail = mail_filter lock.0 (λ g. nat_lt (s.turns + 1) g.turn) s.mail ∙ rw (is.is_mail, is.is_turn) (grind arith)
+
+        view : view_of setup threads (with_processor t p (after_label (Label.Take lock mode version) cells)) lock.0
+            ≡ record v_take { mail = update v_take.mail p []; held = update v_take.held p (Some grant.mode); taking = update v_take.taking p None; turns = update v_take.turns p (v_take.turns p + 1) }
+        view =
+            turn_view setup threads t p (Label.Take lock mode version) cells lock.0 (taking_next setup first threads locked steps t reached left p lt (Label.Take lock mode version) cells own lock.0)
+            ∙ ap₂ (λ m held. turned_view p m held None v_take) mail (test_here lock.0 (Some mode) (s.held lock.0) ∙ ap (λ m. Some m) (sym is.is_mode))
+
+    take_turn : IsTurned (Label.Take lock mode version) (next_by_step setup threads t p (Some record { label = Label.Take lock mode version; cells = cells }))
+    take_turn = go (grant_for (s.turns + 1) s.mail) refl
+      where
+        want : threads.want s.thread ≡ Want.Take lock mode
+        want = (take_wanted setup.bindings p (own_view s) (threads.text s.thread) (threads.want s.thread) lock mode version own.is_label).0
+
+        go : (o : Option MailGrant) → grant_for (s.turns + 1) s.mail ≡ o → IsTurned (Label.Take lock mode version) (with_processor t p (after_label (Label.Take lock mode version) cells))
+        go None e = absurd (true≢false (sym (rw (want, e) at own.is_ready)))
+        go (Some grant) e = taken_by grant (is_taken setup threads t _ reached.sound p lock mode grant want e)
+
+  -- Every turn.
+
+  pub turn_reaches : (label : Label) (cells : List CellValue) → IsOwnTurn setup threads p s record { label = label; cells = cells } →
+      IsTurned label (next_by_step setup threads t p (Some record { label = label; cells = cells }))
+  turn_reaches Label.Quiet cells own = still_turn Label.Quiet cells own (λ l. record { no_take = refl; no_ask = refl; same_mail = refl; same_hold = refl; same_version = refl })
+  turn_reaches (Label.Load cell value) cells own = still_turn (Label.Load cell value) cells own (λ l. record { no_take = refl; no_ask = refl; same_mail = refl; same_hold = refl; same_version = refl })
+  turn_reaches (Label.Store cell value) cells own = still_turn (Label.Store cell value) cells own (λ l. record { no_take = refl; no_ask = refl; same_mail = refl; same_hold = refl; same_version = refl })
+  turn_reaches (Label.Ask lock mode) cells own = ask_turn lock mode cells own
+  turn_reaches (Label.Take lock mode version) cells own = take_turn lock mode version cells own
+  turn_reaches (Label.Give lock) cells own = give_turn lock cells own
+  turn_reaches (Label.Arrive bar) cells own = still_turn (Label.Arrive bar) cells own (λ l. record { no_take = refl; no_ask = refl; same_mail = refl; same_hold = refl; same_version = refl })
+  turn_reaches (Label.Cross bar epoch) cells own = still_turn (Label.Cross bar epoch) cells own (λ l. record { no_take = refl; no_ask = refl; same_mail = refl; same_hold = refl; same_version = refl })
+  turn_reaches (Label.Line text) cells own = still_turn (Label.Line text) cells own (λ l. record { no_take = refl; no_ask = refl; same_mail = refl; same_hold = refl; same_version = refl })
+  turn_reaches Label.End cells own = still_turn Label.End cells own (λ l. record { no_take = refl; no_ask = refl; same_mail = refl; same_hold = refl; same_version = refl })
+  turn_reaches (Label.Stop fault line) cells own = still_turn (Label.Stop fault line) cells own (λ l. record { no_take = refl; no_ask = refl; same_mail = refl; same_hold = refl; same_version = refl })

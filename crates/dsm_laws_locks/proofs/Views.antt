@@ -181,7 +181,7 @@ grants_home : (me turn : ℕ) (lock : Lock) (state : LockState) (ws : List Waiti
 grants_home me turn lock state [] a = refl
 grants_home me turn lock state (w ∷ ws) a = grind (arith, grants_home me turn lock state ws a)
 
-mail_append : (lock : ℕ) (xs ys : List MailGrant) → mail_of lock (xs ++ ys) ≡ mail_of lock xs ++ mail_of lock ys
+pub mail_append : (lock : ℕ) (xs ys : List MailGrant) → mail_of lock (xs ++ ys) ≡ mail_of lock xs ++ mail_of lock ys
 mail_append lock [] ys = refl
 mail_append lock (x ∷ xs) ys = grind (arith, mail_append lock xs ys)
 

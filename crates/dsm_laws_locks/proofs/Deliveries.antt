@@ -1,0 +1,139 @@
+-- A delivery keeps the rights of every lock sound.
+use Rattle.std.specs.Prelude.{◌≡◌, ◌≢◌, ℕ, ◌+◌, ◌<◌, ◌==◌, ◌&&◌, Bool, true, false, if◌then◌else◌, List, [], ◌∷◌, ◌++◌, Option, Some, None}
+use Rattle.std.specs.List.{AllByRecursion}
+use Rattle.std.proofs.Common.{arith, refl, sym, ap, ap₂, ◌∙◌, subst, inl, inr}
+use Rattle.std.proofs.lemmas.Bool.Decides.{eqb_tells}
+use Rattle.dsm_base.specs.declared.names.Lock.{Lock}
+use Rattle.dsm_base.specs.declared.names.Mode.{Mode}
+use Rattle.dsm_base.specs.declared.setup.Setup.{Setup}
+use Rattle.dsm_base.specs.Family.{update, update_at}
+use Rattle.dsm_base.specs.Threads.{Semantics}
+use Rattle.dsm_base.specs.Plain.{Turn, after_run}
+use Rattle.dsm_trace.specs.declared.message.Body.{Body}
+use Rattle.dsm_trace.specs.declared.message.CellValue.{CellValue}
+use Rattle.dsm_trace.specs.declared.message.Letter.{Letter}
+use Rattle.dsm_trace.specs.declared.message.MailGrant.{MailGrant}
+use Rattle.dsm_trace.specs.declared.lock.Waiting.{Waiting}
+use Rattle.dsm_trace.specs.Locks.{home_of, asked, granted_by_ask, given, granted_by_give}
+use Rattle.dsm_trace.specs.Processor.{Processor}
+use Rattle.dsm_trace.specs.Effects.{waiting_of, handled}
+use Rattle.dsm_trace.specs.Told.{Told}
+use Rattle.dsm_trace.proofs.Units.{next_by_delivery}
+use Rattle.dsm_laws_locks.proofs.Places.{Word, Asks, Gives, Grants, word_of, words_of, mail_of, taking_of, Place, Asked, Left, View, Saved}
+use Rattle.dsm_laws_locks.proofs.Desks.{Sound, CameBack, next_waiting, with_grants, mail_grant, request_came, request_turn, release_came, grant_came, ask_handled, give_handled}
+use Rattle.dsm_laws_locks.proofs.Views.{view_of, IsSameView, same_view, with_processor, seen_same, granting, granting_view, granting_other, mail_append}
+use Rattle.dsm_laws_locks.proofs.Changes.{popped_view, pop_view, pop_other, popped}
+use Rattle.dsm_laws_locks.proofs.Routes.{IsRoute, IsRouted, sent_routed, processors_routed, taken_routed, grants_routed}
+use Rattle.dsm_laws_locks.proofs.Reached.{AreSound, same_sound, sounds}
+use Rattle.dsm_laws_locks.proofs.Steps.{at_locks, test_here, hand_back}
+
+other : (a b : ℕ) → a ≢ b → (b == a) ≡ false
+other a b n = elim (eqb_tells b a) [ inl (_, i) ↦ absurd (n (sym i)) | inr (e, _) ↦ e ]
+
+test : (n : ℕ) → (n == n) ≡ true
+test n = grind arith
+
+-- a word for the home is taken out
+pop_asks : (setup : Setup) (lock a b : ℕ) (rest : List Word) (v : View) → home_of setup lock ≡ b → a ≢ b → popped_view setup lock a b rest v ≡ record v { asks = update v.asks a rest }
+pop_asks setup lock a b rest v home n = same_view _ _ record {
+  asks = λ q. rw (home, test b) (elim (eqb_tells q a) [ inl (e, _) ↦ rw e refl | inr (e, _) ↦ rw e refl ]);
+  grants = λ q. rw (home, other a b n) refl;
+  mail = λ q. refl;
+  held = λ q. refl;
+  taking = λ q. refl;
+  turns = λ q. refl;
+  in_hand = λ q. refl;
+  desk = refl;
+}
+
+-- a word from the home is taken out
+pop_grants : (setup : Setup) (lock a b : ℕ) (rest : List Word) (v : View) → home_of setup lock ≡ a → a ≢ b → popped_view setup lock a b rest v ≡ record v { grants = update v.grants b rest }
+pop_grants setup lock a b rest v home n = same_view _ _ record {
+  asks = λ q. rw home (elim (eqb_tells q a) [ inl (e, _) ↦ rw (e, other b a (λ i. n (sym i))) refl | inr (e, _) ↦ rw e refl ]);
+  grants = λ q. rw (home, test a) refl;
+  mail = λ q. refl;
+  held = λ q. refl;
+  taking = λ q. refl;
+  turns = λ q. refl;
+  in_hand = λ q. refl;
+  desk = refl;
+}
+
+hand_view : (q : ℕ) (v : View) → ((x : ℕ) → v.in_hand x ≡ false) → v ≡ record v { in_hand = update (update v.in_hand q true) q false }
+hand_view q v none = same_view _ _ record {
+  asks = λ x. refl;
+  grants = λ x. refl;
+  mail = λ x. refl;
+  held = λ x. refl;
+  taking = λ x. refl;
+  turns = λ x. refl;
+  in_hand = hand_back q v.in_hand none;
+  desk = refl;
+}
+
+-- a processor's mailbox changes
+mail_view : {S : Type 0} (setup : Setup) (threads : Semantics S) (t : Told S) (b lock : ℕ) (s : Processor S) (mail : List MailGrant) →
+    view_of setup threads (with_processor t b (record s { mail = mail })) lock
+    ≡ record (view_of setup threads (with_processor t b s) lock) { mail = update (view_of setup threads (with_processor t b s) lock).mail b (mail_of lock mail) }
+mail_view setup threads t b lock s mail = same_view _ _ record {
+  asks = λ x. refl;
+  grants = λ x. refl;
+  mail = λ x. elim (eqb_tells x b) [ inl (e, _) ↦ rw e refl | inr (e, _) ↦ rw e refl ];
+  held = λ x. seen_same (λ r. r.held lock) t.processors b (record s { mail = mail }) s refl x;
+  taking = λ x. seen_same (λ r. taking_of lock (threads.want r.thread)) t.processors b (record s { mail = mail }) s refl x;
+  turns = λ x. seen_same (λ r. r.turns) t.processors b (record s { mail = mail }) s refl x;
+  in_hand = λ x. refl;
+  desk = seen_same (λ r. r.locks lock) t.processors b (record s { mail = mail }) s refl (home_of setup lock);
+}
+
+-- what holds once a letter was handled
+pub record IsDelivered {S : Type 0} (setup : Setup) (first : ℕ → S) (threads : Semantics S) (run : List Turn) (after : Told S) : Type 0 where
+  pub is_routed : IsRouted setup after
+  pub sound : AreSound setup first threads run after
+
+module _ {S : Type 0} (setup : Setup) (first : ℕ → S) (threads : Semantics S) (run : List Turn) (t : Told S) (routed : IsRouted setup t) (sound : AreSound setup first threads run t)
+    (a b : ℕ) (letter : Letter) (others : List Letter) (oldest : t.under_way a b ≡ letter ∷ others) where
+  abbrev s : Processor S
+  s = t.processors b
+
+  abbrev turn : ℕ
+  turn = letter.msg.carry.turn
+
+  -- the lock as it is seen, and once a word of it is in its home's hands
+  abbrev v_at : Lock → View
+  v_at lock = view_of setup threads t lock.0
+
+  abbrev v_came : Lock → View
+  v_came lock = record (v_at lock) { asks = update (v_at lock).asks a (words_of lock.0 others); in_hand = update (v_at lock).in_hand a true }
+
+  route : IsRoute setup a b letter.msg.body
+  route =
+      let all : AllByRecursion (λ x. IsRoute setup a b x.msg.body) (letter ∷ others) = rw oldest at (routed.routes a b) in
+      all.0
+
+  came_routed : IsRouted setup (popped setup threads t a b letter others oldest)
+  came_routed = taken_routed setup t a b letter others oldest routed
+
+  -- a request
+  request_delivered : (lock : Lock) (mode : Mode) → letter.msg.body ≡ Body.Req lock mode → home_of setup lock.0 ≡ b → a ≢ b → IsDelivered setup first threads run (next_by_delivery t a b (letter ∷ others))
+  request_delivered lock mode e home n = rw e (record {
+    is_routed = sent_routed setup _ _ (grants_routed setup b s.turns lock (asked (s.locks lock.0) (waiting_of a turn mode)) (granted_by_ask (s.locks lock.0) (waiting_of a turn mode)) home)
+        (processors_routed setup (popped setup threads t a b letter others oldest) _ came_routed);
+    sound = at_locks lock.0
+        (same_sound
+          (ap₂ (λ d w. with_grants b lock.0 (granted_by_ask d w) (asked d w) (record (v_came lock) { in_hand = update (v_came lock).in_hand a false })) (ap (λ x. (t.processors x).locks lock.0) home) (ap (λ x. next_waiting a x mode) (sym same_turn))
+            ∙ ap (with_grants b lock.0 (granted_by_ask (s.locks lock.0) (waiting_of a turn mode)) (asked (s.locks lock.0) (waiting_of a turn mode)))
+                (sym (pop_view setup threads t a b letter others oldest lock.0 ∙ pop_asks setup lock.0 a b (words_of lock.0 others) (v_at lock) home n ∙ hand_view a (record (v_at lock) { asks = update (v_at lock).asks a (words_of lock.0 others) }) (λ x. refl)))
+            ∙ sym (granting_view setup threads (popped setup threads t a b letter others oldest) b s lock (asked (s.locks lock.0) (waiting_of a turn mode)) (granted_by_ask (s.locks lock.0) (waiting_of a turn mode)) home))
+          (ask_handled _ lock.0 (v_came lock) _ (request_came _ lock.0 (v_at lock) _ (sound lock.0).sound a turn mode (words_of lock.0 others) refl words) b a mode (test_here a (Asked mode) ((sound lock.0).places a))))
+        (λ l ne. same_sound
+          (sym (granting_other setup threads (popped setup threads t a b letter others oldest) b s lock (asked (s.locks lock.0) (waiting_of a turn mode)) (granted_by_ask (s.locks lock.0) (waiting_of a turn mode)) l ne
+            ∙ pop_other setup threads t a b letter others oldest l (rw e ne)))
+          (sound l));
+  })
+    where
+      words : (v_at lock).asks a ≡ Asks turn mode ∷ words_of lock.0 others
+      words = rw (home, oldest, e, test lock.0) refl
+
+      same_turn : turn ≡ (t.processors a).turns
+      same_turn = request_turn _ lock.0 (v_at lock) _ (sound lock.0).sound a turn mode (words_of lock.0 others) refl words
