@@ -1,7 +1,7 @@
 -- A delivery keeps the rights of every lock sound.
 use Rattle.std.specs.Prelude.{◌≡◌, ◌≢◌, ℕ, ◌+◌, ◌<◌, ◌==◌, ◌&&◌, Bool, true, false, if◌then◌else◌, List, [], ◌∷◌, ◌++◌, Option, Some, None}
 use Rattle.std.specs.List.{AllByRecursion}
-use Rattle.std.proofs.Common.{arith, refl, sym, ap, ap₂, ◌∙◌, subst, inl, inr}
+use Rattle.std.proofs.Common.{arith, refl, sym, ap, ap₂, ◌∙◌, subst, inl, inr, append-nil}
 use Rattle.std.proofs.lemmas.Bool.Decides.{eqb_tells}
 use Rattle.dsm_base.specs.declared.names.Lock.{Lock}
 use Rattle.dsm_base.specs.declared.names.Mode.{Mode}
@@ -25,7 +25,7 @@ use Rattle.dsm_laws_locks.proofs.Views.{view_of, IsSameView, same_view, with_pro
 use Rattle.dsm_laws_locks.proofs.Changes.{popped_view, pop_view, pop_other, popped}
 use Rattle.dsm_laws_locks.proofs.Routes.{IsRoute, IsRouted, sent_routed, processors_routed, taken_routed, grants_routed}
 use Rattle.dsm_laws_locks.proofs.Reached.{AreSound, same_sound, sounds}
-use Rattle.dsm_laws_locks.proofs.Steps.{at_locks, test_here, hand_back}
+use Rattle.dsm_laws_locks.proofs.Steps.{at_locks, test_here, hand_back, back_same}
 
 other : (a b : ℕ) → a ≢ b → (b == a) ≡ false
 other a b n = elim (eqb_tells b a) [ inl (_, i) ↦ absurd (n (sym i)) | inr (e, _) ↦ e ]
@@ -70,6 +70,9 @@ hand_view q v none = same_view _ _ record {
   in_hand = hand_back q v.in_hand none;
   desk = refl;
 }
+
+abbrev with_mail : ℕ → List MailGrant → View → View
+with_mail b mail v = record v { mail = update v.mail b mail }
 
 -- a processor's mailbox changes
 mail_view : {S : Type 0} (setup : Setup) (threads : Semantics S) (t : Told S) (b lock : ℕ) (s : Processor S) (mail : List MailGrant) →
@@ -137,3 +140,78 @@ module _ {S : Type 0} (setup : Setup) (first : ℕ → S) (threads : Semantics S
 
       same_turn : turn ≡ (t.processors a).turns
       same_turn = request_turn _ lock.0 (v_at lock) _ (sound lock.0).sound a turn mode (words_of lock.0 others) refl words
+
+  -- a release
+  release_delivered : (lock : Lock) (mode : Mode) (version : ℕ) (cells : List CellValue) → letter.msg.body ≡ Body.Release lock mode version cells → home_of setup lock.0 ≡ b → a ≢ b →
+      IsDelivered setup first threads run (next_by_delivery t a b (letter ∷ others))
+  release_delivered lock mode version cells e home n = rw e (record {
+    is_routed = sent_routed setup _ _ (grants_routed setup b s.turns lock (given (s.locks lock.0) a mode version cells) (granted_by_give (s.locks lock.0) a) home)
+        (processors_routed setup (popped setup threads t a b letter others oldest) _ came_routed);
+    sound = at_locks lock.0
+        (same_sound
+          (ap (λ d. with_grants b lock.0 (granted_by_give d a) (given d a mode version cells) (record (v_came lock) { in_hand = update (v_came lock).in_hand a false })) (ap (λ x. (t.processors x).locks lock.0) home)
+            ∙ ap (with_grants b lock.0 (granted_by_give (s.locks lock.0) a) (given (s.locks lock.0) a mode version cells))
+                (sym (pop_view setup threads t a b letter others oldest lock.0 ∙ pop_asks setup lock.0 a b (words_of lock.0 others) (v_at lock) home n
+                  ∙ hand_view a (record (v_at lock) { asks = update (v_at lock).asks a (words_of lock.0 others) }) (λ x. refl)))
+            ∙ sym (granting_view setup threads (popped setup threads t a b letter others oldest) b s lock (given (s.locks lock.0) a mode version cells) (granted_by_give (s.locks lock.0) a) home))
+          (give_handled _ lock.0 (v_came lock) _ came.came b a mode record { version = version; cells = cells } came.next
+            (test_here a (Left mode record { version = version; cells = cells } came.next) ((sound lock.0).places a))))
+        (λ l ne. same_sound
+          (sym (granting_other setup threads (popped setup threads t a b letter others oldest) b s lock (given (s.locks lock.0) a mode version cells) (granted_by_give (s.locks lock.0) a) l ne
+            ∙ pop_other setup threads t a b letter others oldest l (rw e ne)))
+          (sound l));
+  })
+    where
+      words : (v_at lock).asks a ≡ Gives mode version cells ∷ words_of lock.0 others
+      words = rw (home, oldest, e, test lock.0) refl
+
+      came : CameBack _ lock.0 (v_at lock) _ (sound lock.0).sound a mode record { version = version; cells = cells } (words_of lock.0 others)
+      came = release_came _ lock.0 (v_at lock) _ (sound lock.0).sound a mode record { version = version; cells = cells } (words_of lock.0 others) words
+
+  -- a grant
+  grant_delivered : (lock : Lock) (mode : Mode) (take version : ℕ) (cells : List CellValue) → letter.msg.body ≡ Body.Grant lock mode take version cells → home_of setup lock.0 ≡ a → a ≢ b →
+      IsDelivered setup first threads run (next_by_delivery t a b (letter ∷ others))
+  grant_delivered lock mode take version cells e home n = rw e (record {
+    is_routed = processors_routed setup (popped setup threads t a b letter others oldest) _ came_routed;
+    sound = at_locks lock.0
+        (same_sound
+          (sym (mail_view setup threads (popped setup threads t a b letter others oldest) b lock.0 s (s.mail ++ grant ∷ [])
+            ∙ ap (with_mail b (mail_of lock.0 (s.mail ++ grant ∷ [])))
+                (pop_view setup threads t a b letter others oldest lock.0 ∙ pop_grants setup lock.0 a b (words_of lock.0 others) (v_at lock) home n)
+            ∙ ap (λ m. with_mail b m (record (v_at lock) { grants = update (v_at lock).grants b (words_of lock.0 others) })) (mail_append lock.0 s.mail (grant ∷ []) ∙ rw (test lock.0) refl)))
+          record { places = _; sound = grant_came _ lock.0 (v_at lock) _ (sound lock.0).sound b take mode record { version = version; cells = cells } (words_of lock.0 others) words })
+        (λ l ne. same_sound
+          (sym (mail_view setup threads (popped setup threads t a b letter others oldest) b l s (s.mail ++ grant ∷ [])
+            ∙ ap (with_mail b (mail_of l (s.mail ++ grant ∷ []))) (pop_other setup threads t a b letter others oldest l (rw e ne))
+            ∙ same_view _ _ record {
+                asks = λ q. refl;
+                grants = λ q. refl;
+                mail = back_same (view_of setup threads t l).mail b (mail_of l (s.mail ++ grant ∷ [])) (mail_append l s.mail (grant ∷ []) ∙ rw ne (append-nil (mail_of l s.mail)));
+                held = λ q. refl;
+                taking = λ q. refl;
+                turns = λ q. refl;
+                in_hand = λ q. refl;
+                desk = refl;
+              }))
+          (sound l));
+  })
+    where
+      grant : MailGrant
+      grant = record { turn = take; lock = lock; mode = mode; version = version; cells = cells }
+
+      words : (v_at lock).grants b ≡ Grants take mode version cells ∷ words_of lock.0 others
+      words = rw (home, oldest, e, test lock.0) refl
+
+  pub letter_delivered : IsDelivered setup first threads run (next_by_delivery t a b (letter ∷ others))
+  letter_delivered = go letter.msg.body refl
+    where
+      go : (body : Body) → letter.msg.body ≡ body → IsDelivered setup first threads run (next_by_delivery t a b (letter ∷ others))
+      go (Body.Req lock mode) e = (let way : IsRoute setup a b (Body.Req lock mode) = rw e at route in request_delivered lock mode e way.heads way.apart)
+      go (Body.Release lock mode version cells) e = (let way : IsRoute setup a b (Body.Release lock mode version cells) = rw e at route in release_delivered lock mode version cells e way.heads way.apart)
+      go (Body.Grant lock mode take version cells) e =
+          (let way : IsRoute setup a b (Body.Grant lock mode take version cells) = rw e at route in grant_delivered lock mode take version cells e way.heads way.apart)
+
+pub delivery_reaches : {S : Type 0} (setup : Setup) (first : ℕ → S) (threads : Semantics S) (run : List Turn) (t : Told S) → IsRouted setup t → AreSound setup first threads run t →
+    (a b : ℕ) (letters : List Letter) → t.under_way a b ≡ letters → IsDelivered setup first threads run (next_by_delivery t a b letters)
+delivery_reaches setup first threads run t routed sound a b [] e = record { is_routed = routed; sound = sound }
+delivery_reaches setup first threads run t routed sound a b (letter ∷ others) e = letter_delivered setup first threads run t routed sound a b letter others e

@@ -78,7 +78,7 @@ asking_view p mode v = record v { taking = update v.taking p (Some mode); turns 
 abbrev giving_view : ℕ → View → View
 giving_view p v = record v { held = update v.held p None; turns = update v.turns p (v.turns p + 1); in_hand = update v.in_hand p true }
 
-back_same : {A : Type 0} (f : ℕ → A) (p : ℕ) (a : A) → a ≡ f p → (q : ℕ) → update f p a q ≡ f q
+pub back_same : {A : Type 0} (f : ℕ → A) (p : ℕ) (a : A) → a ≡ f p → (q : ℕ) → update f p a q ≡ f q
 back_same f p a e q = elim (eqb_tells q p) [ inl (t, i) ↦ rw t (e ∙ ap f (sym i)) | inr (t, _) ↦ rw t refl ]
 
 ask_view : (p : ℕ) (mode : Mode) (v : View) → ((q : ℕ) → v.in_hand q ≡ false) →
