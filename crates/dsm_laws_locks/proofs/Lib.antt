@@ -14,3 +14,4 @@ pub mod Taking
 pub mod Reached
 pub mod Steps
 pub mod Deliveries
+pub mod Traces

@@ -43,9 +43,12 @@ pub record IsReached {S : Type 0} (setup : Setup) (first : ℕ → S) (threads :
 
 -- what is assumed of the setup and the threads
 pub record IsLocked {S : Type 0} (setup : Setup) (first : ℕ → S) (threads : Semantics S) : Type 0 where
-  pub ask_first : AllAskFirst setup first threads
+  pub asks : (p : ℕ) → AsksFirst threads (first p)
   pub binds : BindsLocksOnly setup
   pub within : AreWithin setup
+
+pub all_ask : {S : Type 0} (setup : Setup) (first : ℕ → S) (threads : Semantics S) → IsLocked setup first threads → AllAskFirst setup first threads
+all_ask setup first threads locked = record { asks = λ p lt. locked.asks p }
 
 -- soundness of a view that is the same
 pub sounds : {IsVersion : ℕ → List CellValue → Type 0} {lock : ℕ} (n m : ℕ) (v w : View) (places : ℕ → Place) → n ≡ m → v ≡ w → IsSound IsVersion n lock v places → Sound IsVersion m lock w
@@ -89,7 +92,7 @@ module _ {S : Type 0} (setup : Setup) (first : ℕ → S) (threads : Semantics S
     is_plain =
         subst (λ x. plain_turn_of setup plain p (threads.text x) (threads.want x) ≡ Some label) (same_thread setup first threads steps p (t.processors p) (left p))
         (same_label setup p (own_view (t.processors p)) plain (threads.text (t.processors p).thread)
-          (same_sight setup first threads steps p (t.processors p) (left p) locked.ask_first reached.is_run reached.is_adequate locked.binds)
+          (same_sight setup first threads steps p (t.processors p) (left p) (all_ask setup first threads locked) reached.is_run reached.is_adequate locked.binds)
           (grant_for ((t.processors p).turns + 1) (t.processors p).mail) (threads.want (t.processors p).thread) label
           (λ lock mode want some. can_take_by lock mode (grant_for ((t.processors p).turns + 1) (t.processors p).mail) refl want some)
           (rw own.is_ready own.is_label))
@@ -103,7 +106,7 @@ module _ {S : Type 0} (setup : Setup) (first : ℕ → S) (threads : Semantics S
     pub taking_next : (lock : ℕ) → taking_of lock (threads.want (threads.after (t.processors p).thread label)) ≡ asked_in lock label
     taking_next lock =
         subst (λ x. taking_of lock (threads.want (threads.after x label)) ≡ asked_in lock label) (sym (left p).thread)
-        (taking_after threads (first p) (locked.ask_first.asks p lt) (deed_labels (deeds_by p steps)) lock label (subst (λ x. Shown (threads.want x) label) (left p).thread is_shown))
+        (taking_after threads (first p) (locked.asks p) (deed_labels (deeds_by p steps)) lock label (subst (λ x. Shown (threads.want x) label) (left p).thread is_shown))
 
     -- once the turn is made, with nothing sent yet
     abbrev pub after_turn : Told S

@@ -36,7 +36,7 @@ use Rattle.dsm_laws_locks.proofs.Wants.{ask_free, give_held, take_wanted, asked_
 use Rattle.dsm_laws_locks.proofs.Saved.{IsSaved, saved_later, saved_made}
 use Rattle.dsm_laws_locks.proofs.Own.{same_copy, newest_held, IsOwnTurn}
 use Rattle.dsm_laws_locks.proofs.Taking.{IsTaken, is_taken}
-use Rattle.dsm_laws_locks.proofs.Reached.{AreSound, IsReached, IsLocked, sounds, same_sound, IsStillAt, held_is, taking_before, taking_next, after_turn, still_at}
+use Rattle.dsm_laws_locks.proofs.Reached.{AreSound, IsReached, IsLocked, all_ask, sounds, same_sound, IsStillAt, held_is, taking_before, taking_next, after_turn, still_at}
 
 -- what holds at a lock and at all others holds at all
 pub at_locks : {P : ℕ → Type 0} (l : ℕ) → P l → ((lock : ℕ) → (l == lock) ≡ false → P lock) → (lock : ℕ) → P lock
@@ -311,7 +311,7 @@ module _ {S : Type 0} (setup : Setup) (first : ℕ → S) (threads : Semantics S
           record { is_newest = same_newest; is_version = subst (λ n. IsVersion_after n (values_of after_give.copy (cells_of setup lock.0))) (sym same_newest) made })
       where
         held_newest : s.versions lock.0 ≡ (after_run first threads (turns_of steps)).versions lock.0
-        held_newest = newest_held setup first threads steps p s (left p) locked.ask_first reached.is_run reached.is_adequate lock.0 Mode.Excl h
+        held_newest = newest_held setup first threads steps p s (left p) (all_ask setup first threads locked) reached.is_run reached.is_adequate lock.0 Mode.Excl h
 
         same_newest : after_give.versions lock.0 ≡ newest_after
         same_newest = rw (h, plain_hold Mode.Excl h) (test_here lock.0 (s.versions lock.0 + 1) (s.versions lock.0) ∙ ap (λ n. n + 1) held_newest
@@ -322,7 +322,7 @@ module _ {S : Type 0} (setup : Setup) (first : ℕ → S) (threads : Semantics S
 
         made : IsVersion_after newest_after (values_of after_give.copy (cells_of setup lock.0))
         made = rw none (saved_made setup first threads record { proc = p; label = Label.Give lock } (turns_of steps) lock.0 s.copy makes
-            (same_copy setup first threads steps p s (left p) locked.ask_first reached.is_run reached.is_adequate lock.0 Mode.Excl h))
+            (same_copy setup first threads steps p s (left p) (all_ask setup first threads locked) reached.is_run reached.is_adequate lock.0 Mode.Excl h))
 
   give_turn : (lock : Lock) (cells : List CellValue) → IsOwnTurn setup threads p s record { label = Label.Give lock; cells = cells } →
       IsTurned (Label.Give lock) (next_by_step setup threads t p (Some record { label = Label.Give lock; cells = cells }))

@@ -71,7 +71,7 @@ module _ (pieces : List Piece) (p : ℕ) (seen : Surroundings) (text : List ℕ)
       (want ≡ Want.Take lock mode) × (version ≡ seen.versions lock.0)
   take_wanted want lock mode version e = (grind arith, grind arith)
 
-not_taking : (lock : ℕ) (want : Want) → ((other : Lock) (mode : Mode) → want ≡ Want.Take other mode → ⊥) → taking_of lock want ≡ None
+pub not_taking : (lock : ℕ) (want : Want) → ((other : Lock) (mode : Mode) → want ≡ Want.Take other mode → ⊥) → taking_of lock want ≡ None
 not_taking lock (Want.Take other mode) h = absurd (h other mode refl)
 not_taking lock Want.Quiet h = refl
 not_taking lock (Want.Load cell line) h = refl
