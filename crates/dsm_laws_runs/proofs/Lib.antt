@@ -7,5 +7,7 @@ pub mod Versions
 pub mod Access
 pub mod Memory
 pub mod Steps
+pub mod OtherTurn
 pub mod Copies
 pub mod Swap
+mod Example

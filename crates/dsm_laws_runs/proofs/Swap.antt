@@ -1,6 +1,6 @@
 -- Two neighbouring turns of different processors change places, where the later one doesn't rest on the earlier one.
-use Rattle.std.specs.Prelude.{◌≡◌, ◌≢◌, ℕ, ℤ, ◌+◌, ◌<◌, ◌≤◌, nat_lt, Bool, true, false, ◌&&◌, ◌||◌, ◌==◌, not, if◌then◌else◌, List, [], ◌∷◌, Option, Some, None, is_some}
-use Rattle.std.proofs.Common.{arith, refl, ap, sym, subst, ◌∙◌, ⊎_elim}
+use Rattle.std.specs.Prelude.{◌≡◌, ◌≢◌, ℕ, ℤ, ◌+◌, ◌<◌, ◌≤◌, nat_lt, Bool, true, false, ◌&&◌, ◌||◌, ◌==◌, if◌then◌else◌, List, ◌∷◌, Option, Some, None, is_some}
+use Rattle.std.proofs.Common.{arith, refl, sym, subst, ◌∙◌}
 use Rattle.std.proofs.Math.Path.{fun_ext}
 use Rattle.dsm_base.specs.declared.names.Lock.{Lock}
 use Rattle.dsm_base.specs.declared.names.Bar.{Bar}
@@ -9,21 +9,21 @@ use Rattle.dsm_base.specs.declared.names.Mode.{Mode}
 use Rattle.dsm_base.specs.declared.label.Label.{Label}
 use Rattle.dsm_base.specs.declared.label.Want.{Want}
 use Rattle.dsm_base.specs.declared.setup.Setup.{Setup}
-use Rattle.dsm_base.specs.Family.{update, all_below}
+use Rattle.dsm_base.specs.Family.{update}
 use Rattle.dsm_base.specs.Access.{is_exclusive}
 use Rattle.dsm_base.specs.Threads.{Semantics}
-use Rattle.dsm_base.specs.Plain.{PlainState, Turn, IsPlainRun, IsPlainTurn, after_run, plain_after, plain_turn, plain_turn_of, memory_after, held_after, versions_after, arrived_after, crossed_after, can_take, can_cross, may_stand_beside}
+use Rattle.dsm_base.specs.Plain.{PlainState, Turn, IsPlainRun, after_run, plain_after, plain_turn, plain_turn_of, memory_after, held_after, versions_after, arrived_after, crossed_after, can_take, can_cross, may_stand_beside}
 use Rattle.dsm_laws_runs.specs.Versions.{AllAskFirst, IsCellOf, SameAt, makes_version, memory_at}
 use Rattle.dsm_trace.specs.OneMemory.{BindsLocksOnly}
-use Rattle.dsm_laws_runs.specs.Swap.{rests_on, clashes, ChangePlaces}
-use Rattle.dsm_laws_runs.proofs.Families.{all_at, all_from, update_swap}
-use Rattle.dsm_laws_runs.proofs.OwnPart.{other_thread, other_held, other_arrived, other_crossed}
+use Rattle.dsm_laws_runs.specs.Swap.{rests_on, clashes, AreFree, ChangePlaces}
+use Rattle.dsm_laws_runs.proofs.Families.{all_at, all_from}
+use Rattle.dsm_laws_runs.proofs.OwnPart.{other_thread, other_held, other_crossed}
 use Rattle.dsm_laws_runs.proofs.Turns.{takes_of}
 use Rattle.dsm_laws_runs.proofs.Asking.{takes_when_free}
 use Rattle.dsm_laws_runs.proofs.Exclusion.{beside_of, exclusive_alone, taken_beside}
 use Rattle.dsm_laws_runs.proofs.Versions.{version_step, version_kept}
 use Rattle.dsm_laws_runs.proofs.Access.{BoundTo, stored_bound, stores_hold, loads_hold}
-use Rattle.dsm_laws_runs.proofs.Copies.{kept_memory}
+use Rattle.dsm_laws_runs.proofs.OtherTurn.{kept_memory}
 
 -- a state in which p's turn is the same as in another: what the label depends on is the same, and what was possible is possible
 record SameFor {S : Type 0} (procs : ℕ) (s t : PlainState S) (p : ℕ) (label : Label) : Type 0 where
@@ -154,7 +154,7 @@ exclusive_some held e = grind arith
 memory_at_if : {S : Type 0} (first : ℕ → S) (threads : Semantics S) (turn : Turn) (before : List Turn) (lock version cell : ℕ) →
     memory_at first threads (turn ∷ before) lock version cell
     ≡ (if makes_version lock ((after_run first threads before).held turn.proc) turn.label && ((after_run first threads before).versions lock + 1 == version)
-        then (after_run first threads before).memory cell else memory_at first threads before lock version cell)
+    then (after_run first threads before).memory cell else memory_at first threads before lock version cell)
 memory_at_if first threads turn before lock version cell = grind arith
 
 same_choice : (one other : Bool) (now after_one after_other version : ℕ) (value with_one with_other rest : ℤ) → (one ≡ true → other ≡ false) → (one ≡ false → after_one ≡ now) → (other ≡ false → after_other ≡ now) →
@@ -168,7 +168,7 @@ taken_both : {S : Type 0} (setup : Setup) (threads : Semantics S) (s : PlainStat
     (taken : Lock) (other : Mode) (now : ℕ) → taken.0 ≡ lock.0 → plain_turn setup threads (plain_after threads s p x) q ≡ Some (Label.Take taken other now) → may_stand_beside other (Some mode) ≡ true
 taken_both setup threads s p q x lt apart lock mode version is taken other now same turn =
     let may : may_stand_beside other ((plain_after threads s p x).held p taken.0) ≡ true =
-        beside_of setup.procs (plain_after threads s p x).held q taken.0 other p lt apart (takes_of setup (plain_after threads s p x) q _ _ taken other now turn).possible in
+    beside_of setup.procs (plain_after threads s p x).held q taken.0 other p lt apart (takes_of setup (plain_after threads s p x) q _ _ taken other now turn).possible in
     let holds : (plain_after threads s p x).held p taken.0 ≡ Some mode = grind arith in
     rw holds at may
 
@@ -203,30 +203,35 @@ module _ {S : Type 0} (setup : Setup) (first : ℕ → S) (threads : Semantics S
     later_turn =
         same_turn setup start (plain_after threads start earlier.proc earlier.label) later.proc _ _ later.label
         (later_first setup threads start earlier.proc later.proc earlier.label later.label apart rests clash
-            (λ taken mode version is. takes_when_free setup first threads ask_first before is_run.0.0 earlier.proc is_run.0.1.is_processor taken mode version (rw is at is_run.0.1.is_label)))
+        (λ taken mode version is. takes_when_free setup first threads ask_first before is_run.0.0 earlier.proc is_run.0.1.is_processor taken mode version (rw is at is_run.0.1.is_label)))
         (rw (other_thread threads start later.proc earlier.proc earlier.label back) at is_run.1.is_label)
 
     earlier_turn : plain_turn setup threads (plain_after threads start later.proc later.label) earlier.proc ≡ Some earlier.label
     earlier_turn =
         same_turn setup (plain_after threads start later.proc later.label) start earlier.proc _ _ earlier.label
         (earlier_second setup threads start earlier.proc later.proc earlier.label later.label apart clash
-            (λ lock mode version is. taken_beside setup first threads before is_run.0.0 earlier.proc lock mode version (rw is at is_run.0.1.is_label) later.proc back)
-            (λ lock mode version is taken other now takes same. taken_both setup threads start earlier.proc later.proc earlier.label is_run.0.1.is_processor apart lock mode version is taken other now same (rw takes at is_run.1.is_label)))
+        (λ lock mode version is. taken_beside setup first threads before is_run.0.0 earlier.proc lock mode version (rw is at is_run.0.1.is_label) later.proc back)
+        (λ lock mode version is taken other now takes same. taken_both setup threads start earlier.proc later.proc earlier.label is_run.0.1.is_processor apart lock mode version is taken other now same (rw takes at is_run.1.is_label)))
         (rw (other_thread threads start earlier.proc later.proc later.label apart) is_run.0.1.is_label)
 
     -- the cells of a lock at a version, which at most one of the two turns makes
     same_at : (lock version : ℕ) → SameAt setup lock (memory_at first threads (earlier ∷ later ∷ before) lock version) (memory_at first threads (later ∷ earlier ∷ before) lock version)
     same_at lock version cell is =
         memory_at_if first threads earlier (later ∷ before) lock version cell
-        ∙ rw (memory_at_if first threads later before lock version cell, memory_at_if first threads later (earlier ∷ before) lock version cell, memory_at_if first threads earlier before lock version cell,
-            other_held threads start earlier.proc later.proc later.label apart, other_held threads start later.proc earlier.proc earlier.label back)
+        ∙ rw (
+          memory_at_if first threads later before lock version cell,
+          memory_at_if first threads later (earlier ∷ before) lock version cell,
+          memory_at_if first threads earlier before lock version cell,
+          other_held threads start earlier.proc later.proc later.label apart,
+          other_held threads start later.proc earlier.proc earlier.label back,
+        )
         (same_choice one other (start.versions lock) ((plain_after threads start earlier.proc earlier.label).versions lock) ((plain_after threads start later.proc later.label).versions lock) version
-            (start.memory cell) ((plain_after threads start earlier.proc earlier.label).memory cell) ((plain_after threads start later.proc later.label).memory cell) (memory_at first threads before lock version cell)
-            alone
-            (version_kept start.versions (start.held earlier.proc) earlier.label lock)
-            (version_kept start.versions (start.held later.proc) later.label lock)
-            (λ made. kept_memory setup first threads before is_run.0.0 later.proc earlier.proc earlier.label back is_run.0.1.is_label lock (exclusive_some _ (makes_exclusive lock (start.held later.proc) later.label made)) cell is)
-            (λ made. kept_memory setup first threads before is_run.0.0 earlier.proc later.proc later.label apart later_turn lock (exclusive_some _ (makes_exclusive lock (start.held earlier.proc) earlier.label made)) cell is))
+        (start.memory cell) ((plain_after threads start earlier.proc earlier.label).memory cell) ((plain_after threads start later.proc later.label).memory cell) (memory_at first threads before lock version cell)
+        alone
+        (version_kept start.versions (start.held earlier.proc) earlier.label lock)
+        (version_kept start.versions (start.held later.proc) later.label lock)
+        (λ made. kept_memory setup first threads before is_run.0.0 later.proc earlier.proc earlier.label back is_run.0.1.is_label lock (exclusive_some _ (makes_exclusive lock (start.held later.proc) later.label made)) cell is)
+        (λ made. kept_memory setup first threads before is_run.0.0 earlier.proc later.proc later.label apart later_turn lock (exclusive_some _ (makes_exclusive lock (start.held earlier.proc) earlier.label made)) cell is))
       where
         one : Bool
         one = makes_version lock (start.held earlier.proc) earlier.label
@@ -235,8 +240,12 @@ module _ {S : Type 0} (setup : Setup) (first : ℕ → S) (threads : Semantics S
         other = makes_version lock (start.held later.proc) later.label
 
         alone : makes_version lock (start.held earlier.proc) earlier.label ≡ true → makes_version lock (start.held later.proc) later.label ≡ false
-        alone made = grind (arith, makes_exclusive lock (start.held earlier.proc) earlier.label made, makes_exclusive lock (start.held later.proc) later.label,
-            exclusive_alone setup first threads before is_run.0.0 earlier.proc later.proc lock apart)
+        alone made = grind (
+          arith,
+          makes_exclusive lock (start.held earlier.proc) earlier.label made,
+          makes_exclusive lock (start.held later.proc) later.label,
+          exclusive_alone setup first threads before is_run.0.0 earlier.proc later.proc lock apart,
+        )
 
     pub changed : ChangePlaces setup first threads before earlier later
     changed = record {
@@ -245,11 +254,17 @@ module _ {S : Type 0} (setup : Setup) (first : ℕ → S) (threads : Semantics S
       same_versions = same_at;
     }
 
-  -- where all cells are bound to locks
-  pub change_places : BindsLocksOnly setup → rests_on ((after_run first threads before).held earlier.proc) earlier.label later.label ≡ false → ChangePlaces setup first threads before earlier later
-  change_places binds rests =
-      changed rests
-      (no_clash setup binds threads start (plain_after threads start earlier.proc earlier.label) earlier.proc later.proc (other_held threads start later.proc earlier.proc earlier.label back)
-          (λ lock. exclusive_alone setup first threads before is_run.0.0 earlier.proc later.proc lock apart)
-          (λ lock. exclusive_alone setup first threads before is_run.0.0 later.proc earlier.proc lock back)
-          earlier.label later.label is_run.0.1.is_label is_run.1.is_label)
+-- where all cells are bound to locks neighbouring turns don't clash
+pub free_clash : {S : Type 0} (setup : Setup) (first : ℕ → S) (threads : Semantics S) (before : List Turn) (earlier later : Turn) → BindsLocksOnly setup →
+    IsPlainRun setup first threads (later ∷ earlier ∷ before) → earlier.proc ≢ later.proc → clashes earlier.label later.label ≡ false
+free_clash setup first threads before earlier later binds is_run apart =
+    no_clash setup binds threads (after_run first threads before) (after_run first threads (earlier ∷ before)) earlier.proc later.proc
+    (other_held threads (after_run first threads before) later.proc earlier.proc earlier.label (λ e. apart (sym e)))
+    (λ lock. exclusive_alone setup first threads before is_run.0.0 earlier.proc later.proc lock apart)
+    (λ lock. exclusive_alone setup first threads before is_run.0.0 later.proc earlier.proc lock (λ e. apart (sym e)))
+    earlier.label later.label is_run.0.1.is_label is_run.1.is_label
+
+pub change_places : {S : Type 0} (setup : Setup) (first : ℕ → S) (threads : Semantics S) (before : List Turn) (earlier later : Turn) → AreFree setup first threads before earlier later →
+    ChangePlaces setup first threads before earlier later
+change_places setup first threads before earlier later f =
+    changed setup first threads f.ask_first before earlier later f.is_run f.apart f.free (free_clash setup first threads before earlier later f.binds_locks f.is_run f.apart)

@@ -1,16 +1,49 @@
-//! Laws of runs over one memory: who may hold a lock, what its versions are, and what a copy is worth
-//! that takes bring up to date.
+//! Laws of runs over one memory: who may hold a lock, what its versions are, what a copy is worth that
+//! takes bring up to date, and which turns may change places.
 #![tactic(auto)]
 
-ghost use Rattle.std.specs.Prelude.{ℕ, List};
+ghost use Rattle.std.specs.Prelude.{◌≡◌, ◌≢◌, ℕ, Option, Some, false, List, ◌∷◌};
+ghost use Rattle.dsm_base.specs.declared.names.Mode.{Mode};
 ghost use Rattle.dsm_base.specs.declared.setup.Setup.{Setup};
+ghost use Rattle.dsm_base.specs.Access.{is_exclusive};
+ghost use Rattle.dsm_base.specs.Threads.{state_after};
+ghost use Rattle.dsm_base.specs.Plain.{Turn, IsPlainRun, after_run, labels_of};
+ghost use Rattle.dsm_laws_runs.specs.OwnPart.{held_of, arrived_of, crossed_of};
+ghost use Rattle.dsm_laws_runs.specs.Versions.{AllAskFirst, SameAt, memory_at, versions_made};
 ghost use Rattle.dsm_laws_runs.specs.Steps.{Step};
 ghost use Rattle.dsm_laws_runs.specs.Agreement.{IsLockRun, Agreement};
+ghost use Rattle.dsm_laws_runs.specs.Swap.{AreFree, ChangePlaces};
 
 use dsm_base::Task;
+
+/// A processor's labels alone tell its thread, its holds, its arrivals and its crossings.
+pub fn own_part<T: Task>()
+    ensures thread { (first : ℕ → T.State) (run : List Turn) (p : ℕ) → (after_run first T.semantics run).threads p ≡ state_after T.semantics (first p) (labels_of p run) }
+    ensures held { (first : ℕ → T.State) (run : List Turn) (p : ℕ) → (after_run first T.semantics run).held p ≡ held_of (labels_of p run) }
+    ensures arrived { (first : ℕ → T.State) (run : List Turn) (p : ℕ) → (after_run first T.semantics run).arrived p ≡ arrived_of (labels_of p run) }
+    ensures crossed { (first : ℕ → T.State) (run : List Turn) (p : ℕ) → (after_run first T.semantics run).crossed p ≡ crossed_of (labels_of p run) }
+{}
+
+/// Two processors hold one lock only where both hold it shared.
+pub fn exclusive_holds<T: Task>()
+    ensures { (setup : Setup) (first : ℕ → T.State) (run : List Turn) → IsPlainRun setup first T.semantics run → let s = after_run first T.semantics run in (p q lock : ℕ) (one other : Mode) → p ≢ q → s.held p lock ≡ Some one → s.held q lock ≡ Some other → (one ≡ Mode.Shared) × (other ≡ Mode.Shared) }
+{}
+
+/// The version of a lock is the number of its exclusive holds that were given back, and where nobody
+/// holds it exclusively its cells are as they were when that version was made.
+pub fn lock_versions<T: Task>()
+    ensures count { (first : ℕ → T.State) (run : List Turn) (lock : ℕ) → (after_run first T.semantics run).versions lock ≡ versions_made first T.semantics run lock }
+    ensures memory { (setup : Setup) (first : ℕ → T.State) (run : List Turn) → AllAskFirst setup first T.semantics → IsPlainRun setup first T.semantics run → let s = after_run first T.semantics run in (lock : ℕ) → ((q : ℕ) → is_exclusive (s.held q lock) ≡ false) → SameAt setup lock s.memory (memory_at first T.semantics run lock (s.versions lock)) }
+{}
 
 /// Where each take brings its lock's cells as they were when its version was made, every processor
 /// agrees with the run: at each lock that it holds its own copy has the memory's values.
 pub fn agreement<T: Task>()
     ensures { (setup : Setup) (first : ℕ → T.State) (steps : List Step) → IsLockRun setup first T.semantics steps → Agreement setup first T.semantics steps }
+{}
+
+/// Two neighbouring turns of different processors may change places, unless the later one rests on the
+/// earlier one.
+pub fn change_places<T: Task>()
+    ensures { (setup : Setup) (first : ℕ → T.State) (before : List Turn) (earlier later : Turn) → AreFree setup first T.semantics before earlier later → ChangePlaces setup first T.semantics before earlier later }
 {}
