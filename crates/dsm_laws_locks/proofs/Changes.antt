@@ -1,8 +1,7 @@
 -- What a turn changes of what is seen of a lock, and what a letter that is taken out changes.
-use Rattle.std.specs.Prelude.{◌≡◌, ◌≢◌, ℕ, ◌+◌, ◌==◌, Bool, true, false, not, ◌&&◌, nat_lt, if◌then◌else◌, List, [], ◌∷◌, ◌++◌, map, filter, find, Option, Some, None}
-use Rattle.std.proofs.Common.{arith, refl, sym, ap, ap₂, ◌∙◌, subst, inl, inr, append-nil}
+use Rattle.std.specs.Prelude.{◌≡◌, ℕ, ◌+◌, ◌==◌, Bool, true, false, ◌&&◌, if◌then◌else◌, List, [], ◌∷◌, filter, find, Option, Some}
+use Rattle.std.proofs.Common.{arith, refl, sym, ap, ◌∙◌, subst, inl, inr}
 use Rattle.std.proofs.lemmas.Bool.Decides.{eqb_tells}
-use Rattle.dsm_base.specs.declared.names.Lock.{Lock}
 use Rattle.dsm_base.specs.declared.names.Mode.{Mode}
 use Rattle.dsm_base.specs.declared.label.Label.{Label}
 use Rattle.dsm_base.specs.declared.setup.Setup.{Setup}
@@ -16,9 +15,10 @@ use Rattle.dsm_trace.specs.Locks.{home_of}
 use Rattle.dsm_trace.specs.Processor.{Processor, processor_after, mail_after}
 use Rattle.dsm_trace.specs.Effects.{lock_in}
 use Rattle.dsm_trace.specs.Told.{Told}
-use Rattle.dsm_laws_locks.proofs.Places.{Word, word_of, words_of, mail_of, taking_of, View}
-use Rattle.dsm_laws_locks.proofs.Wants.{asked_in, taken_in}
-use Rattle.dsm_laws_locks.proofs.Views.{view_of, IsSameView, same_view, with_processor, seen_same, update_at_seen}
+use Rattle.dsm_laws_locks.proofs.Members.{back_same}
+use Rattle.dsm_laws_locks.proofs.Places.{Word, words_of, mail_of, taking_of, View}
+use Rattle.dsm_laws_locks.proofs.Wants.{asked_in}
+use Rattle.dsm_laws_locks.proofs.Views.{view_of, same_view, with_processor}
 
 -- what is seen of a family with one new member
 pub seen_pushed : {S A : Type 0} (f : Processor S → A) (processors : ℕ → Processor S) (p : ℕ) (s : Processor S) (a : A) → f s ≡ a → (q : ℕ) → f (update processors p s q) ≡ update (λ x. f (processors x)) p a q
@@ -49,16 +49,13 @@ pub stayed_view : (p : ℕ) (mail : List MailGrant) (held taking : Option Mode) 
 stayed_view p mail held taking v m h k = same_view _ _ record {
   asks = λ q. refl;
   grants = λ q. refl;
-  mail = back v.mail mail m;
-  held = back v.held held h;
-  taking = back v.taking taking k;
+  mail = back_same v.mail p mail m;
+  held = back_same v.held p held h;
+  taking = back_same v.taking p taking k;
   turns = λ q. refl;
   in_hand = λ q. refl;
   desk = refl;
 }
-  where
-    back : {A : Type 0} (f : ℕ → A) (a : A) → a ≡ f p → (q : ℕ) → update f p a q ≡ f q
-    back f a e q = elim (eqb_tells q p) [ inl (t, i) ↦ rw t (e ∙ ap f (sym i)) | inr (t, _) ↦ rw t refl ]
 
 -- The mailbox after a take.
 
@@ -79,15 +76,15 @@ found test (g ∷ gs) grant e = go (found test gs grant) (test g) refl
   where
     here : IsFound g (mail_of g.lock.0 (g ∷ gs))
     here = elim (eqb_tells g.lock.0 g.lock.0) [
-        inl (t, _) ↦ record { head = g; rest = mail_of g.lock.0 gs; is_mail = rw t refl; is_head = λ r. refl }
+      | inl (t, _) ↦ record { head = g; rest = mail_of g.lock.0 gs; is_mail = rw t refl; is_head = λ r. refl }
       | inr (_, n) ↦ absurd (n refl)
-      ]
+    ]
 
     behind : IsFound grant (mail_of grant.lock.0 gs) → IsFound grant (mail_of grant.lock.0 (g ∷ gs))
     behind more = elim (eqb_tells g.lock.0 grant.lock.0) [
-        inl (t, _) ↦ rw t (record { head = g; rest = mail_of grant.lock.0 gs; is_mail = refl; is_head = λ r. let k : more.head ∷ more.rest ≡ [] = sym more.is_mail ∙ r in cc })
+      | inl (t, _) ↦ rw t (record { head = g; rest = mail_of grant.lock.0 gs; is_mail = refl; is_head = λ r. let k : more.head ∷ more.rest ≡ [] = sym more.is_mail ∙ r in cc })
       | inr (t, _) ↦ rw t more
-      ]
+    ]
 
     go : (find test gs ≡ Some grant → IsFound grant (mail_of grant.lock.0 gs)) → (b : Bool) → test g ≡ b → IsFound grant (mail_of grant.lock.0 (g ∷ gs))
     go more true c =
@@ -113,11 +110,11 @@ module _ {S : Type 0} (setup : Setup) (threads : Semantics S) (t : Told S) (a b 
   words_popped : (lock x y : ℕ) → words_of lock (update_at t.under_way a b others x y) ≡ (if (x == a) && (y == b) then words_of lock others else words_of lock (t.under_way x y))
   words_popped lock x y =
       elim (eqb_tells x a) [
-        inl (s, e) ↦ elim (eqb_tells y b) [
-            inl (u, _) ↦ rw (s, u) refl
+        | inl (s, e) ↦ elim (eqb_tells y b) [
+          | inl (u, _) ↦ rw (s, u) refl
           | inr (u, _) ↦ rw (s, u) (ap (λ z. words_of lock (t.under_way z y)) (sym e))
-          ]
-      | inr (s, _) ↦ rw s refl
+        ]
+        | inr (s, _) ↦ rw s refl
       ]
 
   pub pop_view : (lock : ℕ) → view_of setup threads (with_processor popped b (t.processors b)) lock ≡ popped_view setup lock a b (words_of lock others) (view_of setup threads t lock)
@@ -154,9 +151,9 @@ module _ {S : Type 0} (setup : Setup) (threads : Semantics S) (t : Told S) (a b 
       same : (x y : ℕ) → (if (x == a) && (y == b) then words_of lock others else words_of lock (t.under_way x y)) ≡ words_of lock (t.under_way x y)
       same x y =
           elim (eqb_tells x a) [
-            inl (s, e) ↦ elim (eqb_tells y b) [
-                inl (u, d) ↦ rw (s, u, e, d) left
+            | inl (s, e) ↦ elim (eqb_tells y b) [
+              | inl (u, d) ↦ rw (s, u, e, d) left
               | inr (u, _) ↦ rw (s, u) refl
-              ]
-          | inr (s, _) ↦ rw s refl
+            ]
+            | inr (s, _) ↦ rw s refl
           ]

@@ -1,43 +1,36 @@
 -- A delivery keeps the rights of every lock sound.
-use Rattle.std.specs.Prelude.{◌≡◌, ◌≢◌, ℕ, ◌+◌, ◌<◌, ◌==◌, ◌&&◌, Bool, true, false, if◌then◌else◌, List, [], ◌∷◌, ◌++◌, Option, Some, None}
+use Rattle.std.specs.Prelude.{◌≡◌, ◌≢◌, ℕ, true, false, List, [], ◌∷◌, ◌++◌}
 use Rattle.std.specs.List.{AllByRecursion}
-use Rattle.std.proofs.Common.{arith, refl, sym, ap, ap₂, ◌∙◌, subst, inl, inr, append-nil}
+use Rattle.std.proofs.Common.{refl, sym, ap, ap₂, ◌∙◌, inl, inr, append-nil}
 use Rattle.std.proofs.lemmas.Bool.Decides.{eqb_tells}
 use Rattle.dsm_base.specs.declared.names.Lock.{Lock}
 use Rattle.dsm_base.specs.declared.names.Mode.{Mode}
 use Rattle.dsm_base.specs.declared.setup.Setup.{Setup}
-use Rattle.dsm_base.specs.Family.{update, update_at}
+use Rattle.dsm_base.specs.Family.{update}
 use Rattle.dsm_base.specs.Threads.{Semantics}
-use Rattle.dsm_base.specs.Plain.{Turn, after_run}
+use Rattle.dsm_base.specs.Plain.{Turn}
 use Rattle.dsm_trace.specs.declared.message.Body.{Body}
 use Rattle.dsm_trace.specs.declared.message.CellValue.{CellValue}
 use Rattle.dsm_trace.specs.declared.message.Letter.{Letter}
 use Rattle.dsm_trace.specs.declared.message.MailGrant.{MailGrant}
-use Rattle.dsm_trace.specs.declared.lock.Waiting.{Waiting}
 use Rattle.dsm_trace.specs.Locks.{home_of, asked, granted_by_ask, given, granted_by_give}
 use Rattle.dsm_trace.specs.Processor.{Processor}
-use Rattle.dsm_trace.specs.Effects.{waiting_of, handled}
+use Rattle.dsm_trace.specs.Effects.{waiting_of}
 use Rattle.dsm_trace.specs.Told.{Told}
 use Rattle.dsm_trace.proofs.Units.{next_by_delivery}
-use Rattle.dsm_laws_locks.proofs.Places.{Word, Asks, Gives, Grants, word_of, words_of, mail_of, taking_of, Place, Asked, Left, View, Saved}
-use Rattle.dsm_laws_locks.proofs.Desks.{Sound, CameBack, next_waiting, with_grants, mail_grant, request_came, request_turn, release_came, grant_came, ask_handled, give_handled}
-use Rattle.dsm_laws_locks.proofs.Views.{view_of, IsSameView, same_view, with_processor, seen_same, granting, granting_view, granting_other, mail_append}
+use Rattle.dsm_laws_locks.proofs.Members.{same_number, if_same, apart_false, at_locks, back_same, back_false}
+use Rattle.dsm_laws_locks.proofs.Places.{Word, Asks, Gives, Grants, words_of, mail_of, taking_of, Asked, Left, View}
+use Rattle.dsm_laws_locks.proofs.Desks.{CameBack, next_waiting, with_grants, request_came, request_turn, release_came, grant_came, ask_handled, give_handled}
+use Rattle.dsm_laws_locks.proofs.Views.{view_of, same_view, with_processor, seen_same, granting_view, granting_other, mail_append}
 use Rattle.dsm_laws_locks.proofs.Changes.{popped_view, pop_view, pop_other, popped}
 use Rattle.dsm_laws_locks.proofs.Routes.{IsRoute, IsRouted, sent_routed, processors_routed, taken_routed, grants_routed}
-use Rattle.dsm_laws_locks.proofs.Reached.{AreSound, same_sound, sounds}
-use Rattle.dsm_laws_locks.proofs.Steps.{at_locks, test_here, hand_back, back_same}
-
-other : (a b : ℕ) → a ≢ b → (b == a) ≡ false
-other a b n = elim (eqb_tells b a) [ inl (_, i) ↦ absurd (n (sym i)) | inr (e, _) ↦ e ]
-
-test : (n : ℕ) → (n == n) ≡ true
-test n = grind arith
+use Rattle.dsm_laws_locks.proofs.Reached.{AreSound, same_sound}
 
 -- a word for the home is taken out
 pop_asks : (setup : Setup) (lock a b : ℕ) (rest : List Word) (v : View) → home_of setup lock ≡ b → a ≢ b → popped_view setup lock a b rest v ≡ record v { asks = update v.asks a rest }
 pop_asks setup lock a b rest v home n = same_view _ _ record {
-  asks = λ q. rw (home, test b) (elim (eqb_tells q a) [ inl (e, _) ↦ rw e refl | inr (e, _) ↦ rw e refl ]);
-  grants = λ q. rw (home, other a b n) refl;
+  asks = λ q. rw (home, same_number b) (elim (eqb_tells q a) [ inl (e, _) ↦ rw e refl | inr (e, _) ↦ rw e refl ]);
+  grants = λ q. rw (home, apart_false a b n) refl;
   mail = λ q. refl;
   held = λ q. refl;
   taking = λ q. refl;
@@ -49,8 +42,8 @@ pop_asks setup lock a b rest v home n = same_view _ _ record {
 -- a word from the home is taken out
 pop_grants : (setup : Setup) (lock a b : ℕ) (rest : List Word) (v : View) → home_of setup lock ≡ a → a ≢ b → popped_view setup lock a b rest v ≡ record v { grants = update v.grants b rest }
 pop_grants setup lock a b rest v home n = same_view _ _ record {
-  asks = λ q. rw home (elim (eqb_tells q a) [ inl (e, _) ↦ rw (e, other b a (λ i. n (sym i))) refl | inr (e, _) ↦ rw e refl ]);
-  grants = λ q. rw (home, test a) refl;
+  asks = λ q. rw home (elim (eqb_tells q a) [ inl (e, _) ↦ rw (e, apart_false b a (λ i. n (sym i))) refl | inr (e, _) ↦ rw e refl ]);
+  grants = λ q. rw (home, same_number a) refl;
   mail = λ q. refl;
   held = λ q. refl;
   taking = λ q. refl;
@@ -67,7 +60,7 @@ hand_view q v none = same_view _ _ record {
   held = λ x. refl;
   taking = λ x. refl;
   turns = λ x. refl;
-  in_hand = hand_back q v.in_hand none;
+  in_hand = back_false q v.in_hand none;
   desk = refl;
 }
 
@@ -124,19 +117,19 @@ module _ {S : Type 0} (setup : Setup) (first : ℕ → S) (threads : Semantics S
         (processors_routed setup (popped setup threads t a b letter others oldest) _ came_routed);
     sound = at_locks lock.0
         (same_sound
-          (ap₂ (λ d w. with_grants b lock.0 (granted_by_ask d w) (asked d w) (record (v_came lock) { in_hand = update (v_came lock).in_hand a false })) (ap (λ x. (t.processors x).locks lock.0) home) (ap (λ x. next_waiting a x mode) (sym same_turn))
-            ∙ ap (with_grants b lock.0 (granted_by_ask (s.locks lock.0) (waiting_of a turn mode)) (asked (s.locks lock.0) (waiting_of a turn mode)))
-                (sym (pop_view setup threads t a b letter others oldest lock.0 ∙ pop_asks setup lock.0 a b (words_of lock.0 others) (v_at lock) home n ∙ hand_view a (record (v_at lock) { asks = update (v_at lock).asks a (words_of lock.0 others) }) (λ x. refl)))
-            ∙ sym (granting_view setup threads (popped setup threads t a b letter others oldest) b s lock (asked (s.locks lock.0) (waiting_of a turn mode)) (granted_by_ask (s.locks lock.0) (waiting_of a turn mode)) home))
-          (ask_handled _ lock.0 (v_came lock) _ (request_came _ lock.0 (v_at lock) _ (sound lock.0).sound a turn mode (words_of lock.0 others) refl words) b a mode (test_here a (Asked mode) ((sound lock.0).places a))))
+        (ap₂ (λ d w. with_grants b lock.0 (granted_by_ask d w) (asked d w) (record (v_came lock) { in_hand = update (v_came lock).in_hand a false })) (ap (λ x. (t.processors x).locks lock.0) home) (ap (λ x. next_waiting a x mode) (sym same_turn))
+        ∙ ap (with_grants b lock.0 (granted_by_ask (s.locks lock.0) (waiting_of a turn mode)) (asked (s.locks lock.0) (waiting_of a turn mode)))
+        (sym (pop_view setup threads t a b letter others oldest lock.0 ∙ pop_asks setup lock.0 a b (words_of lock.0 others) (v_at lock) home n ∙ hand_view a (record (v_at lock) { asks = update (v_at lock).asks a (words_of lock.0 others) }) (λ x. refl)))
+        ∙ sym (granting_view setup threads (popped setup threads t a b letter others oldest) b s lock (asked (s.locks lock.0) (waiting_of a turn mode)) (granted_by_ask (s.locks lock.0) (waiting_of a turn mode)) home))
+        (ask_handled _ lock.0 (v_came lock) _ (request_came _ lock.0 (v_at lock) _ (sound lock.0).sound a turn mode (words_of lock.0 others) refl words) b a mode (if_same a (Asked mode) ((sound lock.0).places a))))
         (λ l ne. same_sound
-          (sym (granting_other setup threads (popped setup threads t a b letter others oldest) b s lock (asked (s.locks lock.0) (waiting_of a turn mode)) (granted_by_ask (s.locks lock.0) (waiting_of a turn mode)) l ne
-            ∙ pop_other setup threads t a b letter others oldest l (rw e ne)))
-          (sound l));
+        (sym (granting_other setup threads (popped setup threads t a b letter others oldest) b s lock (asked (s.locks lock.0) (waiting_of a turn mode)) (granted_by_ask (s.locks lock.0) (waiting_of a turn mode)) l ne
+        ∙ pop_other setup threads t a b letter others oldest l (rw e ne)))
+        (sound l));
   })
     where
       words : (v_at lock).asks a ≡ Asks turn mode ∷ words_of lock.0 others
-      words = rw (home, oldest, e, test lock.0) refl
+      words = rw (home, oldest, e, same_number lock.0) refl
 
       same_turn : turn ≡ (t.processors a).turns
       same_turn = request_turn _ lock.0 (v_at lock) _ (sound lock.0).sound a turn mode (words_of lock.0 others) refl words
@@ -149,21 +142,21 @@ module _ {S : Type 0} (setup : Setup) (first : ℕ → S) (threads : Semantics S
         (processors_routed setup (popped setup threads t a b letter others oldest) _ came_routed);
     sound = at_locks lock.0
         (same_sound
-          (ap (λ d. with_grants b lock.0 (granted_by_give d a) (given d a mode version cells) (record (v_came lock) { in_hand = update (v_came lock).in_hand a false })) (ap (λ x. (t.processors x).locks lock.0) home)
-            ∙ ap (with_grants b lock.0 (granted_by_give (s.locks lock.0) a) (given (s.locks lock.0) a mode version cells))
-                (sym (pop_view setup threads t a b letter others oldest lock.0 ∙ pop_asks setup lock.0 a b (words_of lock.0 others) (v_at lock) home n
-                  ∙ hand_view a (record (v_at lock) { asks = update (v_at lock).asks a (words_of lock.0 others) }) (λ x. refl)))
-            ∙ sym (granting_view setup threads (popped setup threads t a b letter others oldest) b s lock (given (s.locks lock.0) a mode version cells) (granted_by_give (s.locks lock.0) a) home))
-          (give_handled _ lock.0 (v_came lock) _ came.came b a mode record { version = version; cells = cells } came.next
-            (test_here a (Left mode record { version = version; cells = cells } came.next) ((sound lock.0).places a))))
+        (ap (λ d. with_grants b lock.0 (granted_by_give d a) (given d a mode version cells) (record (v_came lock) { in_hand = update (v_came lock).in_hand a false })) (ap (λ x. (t.processors x).locks lock.0) home)
+        ∙ ap (with_grants b lock.0 (granted_by_give (s.locks lock.0) a) (given (s.locks lock.0) a mode version cells))
+        (sym (pop_view setup threads t a b letter others oldest lock.0 ∙ pop_asks setup lock.0 a b (words_of lock.0 others) (v_at lock) home n
+        ∙ hand_view a (record (v_at lock) { asks = update (v_at lock).asks a (words_of lock.0 others) }) (λ x. refl)))
+        ∙ sym (granting_view setup threads (popped setup threads t a b letter others oldest) b s lock (given (s.locks lock.0) a mode version cells) (granted_by_give (s.locks lock.0) a) home))
+        (give_handled _ lock.0 (v_came lock) _ came.came b a mode record { version = version; cells = cells } came.next
+        (if_same a (Left mode record { version = version; cells = cells } came.next) ((sound lock.0).places a))))
         (λ l ne. same_sound
-          (sym (granting_other setup threads (popped setup threads t a b letter others oldest) b s lock (given (s.locks lock.0) a mode version cells) (granted_by_give (s.locks lock.0) a) l ne
-            ∙ pop_other setup threads t a b letter others oldest l (rw e ne)))
-          (sound l));
+        (sym (granting_other setup threads (popped setup threads t a b letter others oldest) b s lock (given (s.locks lock.0) a mode version cells) (granted_by_give (s.locks lock.0) a) l ne
+        ∙ pop_other setup threads t a b letter others oldest l (rw e ne)))
+        (sound l));
   })
     where
       words : (v_at lock).asks a ≡ Gives mode version cells ∷ words_of lock.0 others
-      words = rw (home, oldest, e, test lock.0) refl
+      words = rw (home, oldest, e, same_number lock.0) refl
 
       came : CameBack _ lock.0 (v_at lock) _ (sound lock.0).sound a mode record { version = version; cells = cells } (words_of lock.0 others)
       came = release_came _ lock.0 (v_at lock) _ (sound lock.0).sound a mode record { version = version; cells = cells } (words_of lock.0 others) words
@@ -175,32 +168,32 @@ module _ {S : Type 0} (setup : Setup) (first : ℕ → S) (threads : Semantics S
     is_routed = processors_routed setup (popped setup threads t a b letter others oldest) _ came_routed;
     sound = at_locks lock.0
         (same_sound
-          (sym (mail_view setup threads (popped setup threads t a b letter others oldest) b lock.0 s (s.mail ++ grant ∷ [])
-            ∙ ap (with_mail b (mail_of lock.0 (s.mail ++ grant ∷ [])))
-                (pop_view setup threads t a b letter others oldest lock.0 ∙ pop_grants setup lock.0 a b (words_of lock.0 others) (v_at lock) home n)
-            ∙ ap (λ m. with_mail b m (record (v_at lock) { grants = update (v_at lock).grants b (words_of lock.0 others) })) (mail_append lock.0 s.mail (grant ∷ []) ∙ rw (test lock.0) refl)))
-          record { places = _; sound = grant_came _ lock.0 (v_at lock) _ (sound lock.0).sound b take mode record { version = version; cells = cells } (words_of lock.0 others) words })
+        (sym (mail_view setup threads (popped setup threads t a b letter others oldest) b lock.0 s (s.mail ++ grant ∷ [])
+        ∙ ap (with_mail b (mail_of lock.0 (s.mail ++ grant ∷ [])))
+        (pop_view setup threads t a b letter others oldest lock.0 ∙ pop_grants setup lock.0 a b (words_of lock.0 others) (v_at lock) home n)
+        ∙ ap (λ m. with_mail b m (record (v_at lock) { grants = update (v_at lock).grants b (words_of lock.0 others) })) (mail_append lock.0 s.mail (grant ∷ []) ∙ rw (same_number lock.0) refl)))
+        record { places = _; sound = grant_came _ lock.0 (v_at lock) _ (sound lock.0).sound b take mode record { version = version; cells = cells } (words_of lock.0 others) words })
         (λ l ne. same_sound
-          (sym (mail_view setup threads (popped setup threads t a b letter others oldest) b l s (s.mail ++ grant ∷ [])
-            ∙ ap (with_mail b (mail_of l (s.mail ++ grant ∷ []))) (pop_other setup threads t a b letter others oldest l (rw e ne))
-            ∙ same_view _ _ record {
-                asks = λ q. refl;
-                grants = λ q. refl;
-                mail = back_same (view_of setup threads t l).mail b (mail_of l (s.mail ++ grant ∷ [])) (mail_append l s.mail (grant ∷ []) ∙ rw ne (append-nil (mail_of l s.mail)));
-                held = λ q. refl;
-                taking = λ q. refl;
-                turns = λ q. refl;
-                in_hand = λ q. refl;
-                desk = refl;
-              }))
-          (sound l));
+        (sym (mail_view setup threads (popped setup threads t a b letter others oldest) b l s (s.mail ++ grant ∷ [])
+        ∙ ap (with_mail b (mail_of l (s.mail ++ grant ∷ []))) (pop_other setup threads t a b letter others oldest l (rw e ne))
+        ∙ same_view _ _ record {
+          asks = λ q. refl;
+          grants = λ q. refl;
+          mail = back_same (view_of setup threads t l).mail b (mail_of l (s.mail ++ grant ∷ [])) (mail_append l s.mail (grant ∷ []) ∙ rw ne (append-nil (mail_of l s.mail)));
+          held = λ q. refl;
+          taking = λ q. refl;
+          turns = λ q. refl;
+          in_hand = λ q. refl;
+          desk = refl;
+        }))
+        (sound l));
   })
     where
       grant : MailGrant
       grant = record { turn = take; lock = lock; mode = mode; version = version; cells = cells }
 
       words : (v_at lock).grants b ≡ Grants take mode version cells ∷ words_of lock.0 others
-      words = rw (home, oldest, e, test lock.0) refl
+      words = rw (home, oldest, e, same_number lock.0) refl
 
   pub letter_delivered : IsDelivered setup first threads run (next_by_delivery t a b (letter ∷ others))
   letter_delivered = go letter.msg.body refl

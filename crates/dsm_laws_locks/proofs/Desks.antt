@@ -1,18 +1,18 @@
 -- What is sent, what comes, and what a lock's home grants, keeps the rights of the lock sound.
-use Rattle.std.specs.Prelude.{◌≡◌, ◌≢◌, ℕ, ◌+◌, ◌==◌, Bool, true, false, not, if◌then◌else◌, List, [], ◌∷◌, ◌++◌, map, Option, Some, None}
-use Rattle.std.proofs.Common.{arith, refl, sym, ap, ap₂, ◌∙◌, subst, append-nil, true≢false}
+use Rattle.std.specs.Prelude.{◌≡◌, ◌≢◌, ℕ, ◌+◌, ◌==◌, Bool, true, false, if◌then◌else◌, List, [], ◌∷◌, ◌++◌, map, Option, Some, None}
+use Rattle.std.proofs.Common.{refl, sym, ap, ap₂, ◌∙◌, subst, append-nil, true≢false}
 use Rattle.dsm_base.specs.declared.names.Mode.{Mode}
 use Rattle.dsm_base.specs.Family.{update}
 use Rattle.dsm_trace.specs.declared.message.CellValue.{CellValue}
 use Rattle.dsm_trace.specs.declared.message.MailGrant.{MailGrant}
-use Rattle.dsm_trace.specs.declared.lock.Holder.{Holder}
 use Rattle.dsm_trace.specs.declared.lock.Waiting.{Waiting}
 use Rattle.dsm_trace.specs.declared.lock.LockState.{LockState}
-use Rattle.dsm_trace.specs.Locks.{is_compatible, holder_of, without_holder, version_after, cells_after, is_empty, is_granted as may_be_granted, granted_by_ask, asked, front_of, behind_front, granted_by_give, given}
+use Rattle.dsm_trace.specs.Locks.{is_compatible, holder_of, without_holder, version_after, cells_after, is_empty, granted_by_ask, asked, front_of, behind_front, granted_by_give, given}
 use Rattle.dsm_trace.specs.Effects.{processor_named, own_grant}
-use Rattle.dsm_laws_locks.proofs.Holders.{modes_of, waits_of, waiting_modes, are_compatible, modes_append, waits_append, modes_granted, modes_without, modes_without_other, compatible_append, without_are_compatible, are_all_shared, without_shared, are_compatible_one, weak_compatible, front_behind, front_compatible, front_shared}
-use Rattle.dsm_laws_locks.proofs.Places.{Word, Asks, Gives, Grants, View, Side, side_of, Saved, Place, Out, Asked, Queued, Granted, Mailed, Holding, Left, Leaving, request, side_at, nothing_seen, IsCurrent, Makes, Brings, IsSound}
-use Rattle.dsm_laws_locks.proofs.Moves.{one_changed, IsGranted, is_granted, IsRequest, is_request, IsRelease, is_release}
+use Rattle.dsm_laws_locks.proofs.Members.{one_changed, turned_false}
+use Rattle.dsm_laws_locks.proofs.Holders.{modes_of, waits_of, waiting_modes, are_compatible, modes_append, waits_append, modes_granted, modes_without, modes_without_other, compatible_append, without_are_compatible, without_shared, are_compatible_one, weak_compatible, front_behind, front_compatible, front_shared}
+use Rattle.dsm_laws_locks.proofs.Places.{Word, Asks, Gives, Grants, View, Side, side_of, Saved, Place, Out, Asked, Queued, Granted, Mailed, Holding, Left, Leaving, side_at, nothing_seen, IsCurrent, Makes, Brings, IsSound}
+use Rattle.dsm_laws_locks.proofs.Moves.{IsGranted, is_granted, IsRequest, is_request, IsRelease, is_release}
 
 abbrev with_release : Mode → Saved → Side → Side
 with_release mode saved x = record x { asks = x.asks ++ Gives mode saved.version saved.cells ∷ []; in_hand = false }
@@ -31,9 +31,6 @@ with_wait waiting x = record x { waits = x.waits ++ waiting ∷ []; in_hand = fa
 
 abbrev without_modes : Side → Side
 without_modes x = record x { modes = []; in_hand = false }
-
-other : (a b : ℕ) → (b == a) ≡ false → (a == b) ≡ false
-other a b e = grind arith
 
 -- who asks in its newest turn would take the lock in the next
 abbrev pub next_waiting : ℕ → ℕ → Mode → Waiting
@@ -98,7 +95,7 @@ module _ {IsVersion : ℕ → List CellValue → Type 0} (newest lock : ℕ) (v 
       record {
         sides = one_changed q
             (λ here. rw here (ap (with_grant_come rest (mail_grant lock turn mode saved)) (sound.sides q ∙ ap (side_at lock q (v.turns q)) is.is_place)
-              ∙ ap₂ (λ r t. with_grant_come r (mail_grant lock t mode saved) (side_at lock q (v.turns q) (Granted mode saved))) is.is_alone is.is_turn))
+            ∙ ap₂ (λ r t. with_grant_come r (mail_grant lock t mode saved) (side_at lock q (v.turns q) (Granted mode saved))) is.is_alone is.is_turn))
             (λ x there. rw there (sound.sides x));
         brings = one_changed q (λ here. rw here (subst (Brings (IsCurrent IsVersion newest)) is.is_place (sound.brings q))) (λ x there. rw there (sound.brings x));
         compatible = sound.compatible;
@@ -114,11 +111,11 @@ module _ {IsVersion : ℕ → List CellValue → Type 0} (newest lock : ℕ) (v 
       record {
         sides = one_changed q
             (λ here. rw here (
-              ap (λ ws. record (side_of v q) { waits = ws; in_hand = false }) (waits_append q v.desk.queue (next_waiting q (v.turns q) mode ∷ []) ∙ rw here refl)
-              ∙ ap (with_wait (next_waiting q (v.turns q) mode)) (sound.sides q ∙ ap (side_at lock q (v.turns q)) is)))
+            ap (λ ws. record (side_of v q) { waits = ws; in_hand = false }) (waits_append q v.desk.queue (next_waiting q (v.turns q) mode ∷ []) ∙ rw here refl)
+            ∙ ap (with_wait (next_waiting q (v.turns q) mode)) (sound.sides q ∙ ap (side_at lock q (v.turns q)) is)))
             (λ x there. rw there (
-              ap (λ ws. record (side_of v x) { waits = ws }) (waits_append x v.desk.queue (next_waiting q (v.turns q) mode ∷ []) ∙ rw (other q x there) (append-nil (waits_of x v.desk.queue)))
-              ∙ sound.sides x));
+            ap (λ ws. record (side_of v x) { waits = ws }) (waits_append x v.desk.queue (next_waiting q (v.turns q) mode ∷ []) ∙ rw (turned_false q x there) (append-nil (waits_of x v.desk.queue)))
+            ∙ sound.sides x));
         brings = one_changed q (λ here. rw here tt) (λ x there. rw there (sound.brings x));
         compatible = sound.compatible;
         is_version = sound.is_version;
@@ -251,9 +248,9 @@ module _ {IsVersion : ℕ → List CellValue → Type 0} (newest lock : ℕ) (v 
   served ws left e all shared = record {
     sides = λ x.
         ap (λ ms. record (served_side (x == me) lock (record v.desk { holders = v.desk.holders ++ map holder_of ws; queue = left }) (waits_of x ws) (waits_of x left) (side_of v x)) { modes = ms })
-          (modes_append x v.desk.holders (map holder_of ws) ∙ ap (λ ms. modes_of x v.desk.holders ++ ms) (modes_granted x ws))
+        (modes_append x v.desk.holders (map holder_of ws) ∙ ap (λ ms. modes_of x v.desk.holders ++ ms) (modes_granted x ws))
         ∙ served_moved (x == me) lock x (v.turns x) (record v.desk { holders = v.desk.holders ++ map holder_of ws; queue = left }) (waits_of x ws) (waits_of x left) (side_of v x) (places x)
-          (sound.sides x) (ap (waits_of x) e ∙ waits_append x ws left);
+        (sound.sides x) (ap (waits_of x) e ∙ waits_append x ws left);
     brings = λ x. served_brings (IsCurrent IsVersion newest) (x == me) (saved_of v.desk) (waits_of x ws) (places x) (sound.brings x)
         (λ some. record { is_newest = sound.is_newest (shared (λ none. some (ap (waits_of x) none))); is_version = sound.is_version });
     compatible = all;
@@ -295,9 +292,9 @@ module _ {IsVersion : ℕ → List CellValue → Type 0} (newest lock : ℕ) (v 
       go true e true c =
           let none : v.desk.queue ≡ [] = empty_queue v.desk.queue e in
           rw (e, c) (
-            subst (λ queue. Sound IsVersion newest lock (handled_view (next_waiting q (v.turns q) mode ∷ []) (record v.desk { holders = v.desk.holders ++ holder_of (next_waiting q (v.turns q) mode) ∷ []; queue = queue }))) (sym none)
-            (all_served newest lock _ _ waits me (next_waiting q (v.turns q) mode ∷ []) [] (ap (λ queue. queue ++ next_waiting q (v.turns q) mode ∷ []) none)
-              (are_compatible_one v.desk.holders (holder_of (next_waiting q (v.turns q) mode)) sound.compatible c) (λ n. weak_compatible v.desk.holders mode c)))
+          subst (λ queue. Sound IsVersion newest lock (handled_view (next_waiting q (v.turns q) mode ∷ []) (record v.desk { holders = v.desk.holders ++ holder_of (next_waiting q (v.turns q) mode) ∷ []; queue = queue }))) (sym none)
+          (all_served newest lock _ _ waits me (next_waiting q (v.turns q) mode ∷ []) [] (ap (λ queue. queue ++ next_waiting q (v.turns q) mode ∷ []) none)
+          (are_compatible_one v.desk.holders (holder_of (next_waiting q (v.turns q) mode)) sound.compatible c) (λ n. weak_compatible v.desk.holders mode c)))
 
   pub give_handled : (mode : Mode) (saved : Saved) (next : Option Mode) → places q ≡ Left mode saved next →
       Sound IsVersion newest lock (handled_view (granted_by_give v.desk q) (given v.desk q mode saved.version saved.cells))

@@ -1,6 +1,6 @@
 -- The holders of a lock and who waits for it, seen by processor, and which modes stand beside each other.
-use Rattle.std.specs.Prelude.{◌≡◌, ◌≢◌, ℕ, ◌+◌, ◌==◌, Bool, true, false, ◌&&◌, not, if◌then◌else◌, List, [], ◌∷◌, ◌++◌, map, filter}
-use Rattle.std.proofs.Common.{arith, refl, sym, ap, ◌∙◌, subst, inl, inr, append_assoc, append-nil, true≢false}
+use Rattle.std.specs.Prelude.{◌≡◌, ◌≢◌, ℕ, ◌==◌, Bool, true, false, ◌&&◌, if◌then◌else◌, List, [], ◌∷◌, ◌++◌, map, filter}
+use Rattle.std.proofs.Common.{arith, refl, ap, subst, inl, inr, append_assoc, append-nil, true≢false}
 use Rattle.std.proofs.lemmas.Bool.Decides.{eqb_tells}
 use Rattle.dsm_base.specs.declared.names.Mode.{Mode}
 use Rattle.dsm_trace.specs.declared.lock.Holder.{Holder}
@@ -31,16 +31,16 @@ pub modes_append : (q : ℕ) (xs ys : List Holder) → modes_of q (xs ++ ys) ≡
 modes_append q [] ys = refl
 modes_append q (x ∷ xs) ys =
     elim (eqb_tells x.proc.0 q) [
-      inl (t, _) ↦ rw t (ap (λ ms. x.mode ∷ ms) (modes_append q xs ys))
-    | inr (t, _) ↦ rw t (modes_append q xs ys)
+      | inl (t, _) ↦ rw t (ap (λ ms. x.mode ∷ ms) (modes_append q xs ys))
+      | inr (t, _) ↦ rw t (modes_append q xs ys)
     ]
 
 pub waits_append : (q : ℕ) (xs ys : List Waiting) → waits_of q (xs ++ ys) ≡ waits_of q xs ++ waits_of q ys
 waits_append q [] ys = refl
 waits_append q (x ∷ xs) ys =
     elim (eqb_tells x.proc.0 q) [
-      inl (t, _) ↦ rw t (ap (λ ws. x ∷ ws) (waits_append q xs ys))
-    | inr (t, _) ↦ rw t (waits_append q xs ys)
+      | inl (t, _) ↦ rw t (ap (λ ws. x ∷ ws) (waits_append q xs ys))
+      | inr (t, _) ↦ rw t (waits_append q xs ys)
     ]
 
 -- who is granted the lock holds it in the mode in which it waited
@@ -48,16 +48,16 @@ pub modes_granted : (q : ℕ) (ws : List Waiting) → modes_of q (map holder_of 
 modes_granted q [] = refl
 modes_granted q (w ∷ ws) =
     elim (eqb_tells w.proc.0 q) [
-      inl (t, _) ↦ rw t (ap (λ ms. w.mode ∷ ms) (modes_granted q ws))
-    | inr (t, _) ↦ rw t (modes_granted q ws)
+      | inl (t, _) ↦ rw t (ap (λ ms. w.mode ∷ ms) (modes_granted q ws))
+      | inr (t, _) ↦ rw t (modes_granted q ws)
     ]
 
 pub modes_without : (q : ℕ) (hs : List Holder) → modes_of q (without_holder q hs) ≡ []
 modes_without q [] = refl
 modes_without q (h ∷ hs) =
     elim (eqb_tells h.proc.0 q) [
-      inl (t, _) ↦ rw t (modes_without q hs)
-    | inr (t, _) ↦ rw (t, t) (modes_without q hs)
+      | inl (t, _) ↦ rw t (modes_without q hs)
+      | inr (t, _) ↦ rw (t, t) (modes_without q hs)
     ]
 
 pub modes_without_other : (p q : ℕ) (hs : List Holder) → (q == p) ≡ false → modes_of q (without_holder p hs) ≡ modes_of q hs
@@ -128,8 +128,8 @@ pub beside_each : (q : ℕ) (hs : List Holder) (m n : Mode) (ns : List Mode) →
 beside_each q [] m n ns e is = absurd (true≢false (cc))
 beside_each q (h ∷ hs) m n ns e is =
     elim (eqb_tells h.proc.0 q) [
-      inl (t, _) ↦ (let k : h.mode ∷ modes_of q hs ≡ n ∷ ns = rw t at is in let s : h.mode ≡ n = cc in subst (λ x. are_shared x m ≡ true) s (both (are_shared h.mode m) (is_compatible hs m) e).0)
-    | inr (t, _) ↦ beside_each q hs m n ns (both (are_shared h.mode m) (is_compatible hs m) e).1 (rw t at is)
+      | inl (t, _) ↦ (let k : h.mode ∷ modes_of q hs ≡ n ∷ ns = rw t at is in let s : h.mode ≡ n = cc in subst (λ x. are_shared x m ≡ true) s (both (are_shared h.mode m) (is_compatible hs m) e).0)
+      | inr (t, _) ↦ beside_each q hs m n ns (both (are_shared h.mode m) (is_compatible hs m) e).1 (rw t at is)
     ]
 
 -- two that hold a lock both hold it shared

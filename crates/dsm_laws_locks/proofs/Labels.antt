@@ -1,6 +1,6 @@
 -- The label that a processor makes by its own copy, holds and mail is the label of its turn over one memory.
-use Rattle.std.specs.Prelude.{◌≡◌, ◌≢◌, ℕ, ℤ, pos, ◌+◌, ◌<◌, ◌==◌, ◌||◌, Bool, true, false, not, ◌&&◌, if◌then◌else◌, List, [], ◌∷◌, Option, Some, None, is_some}
-use Rattle.std.proofs.Common.{arith, refl, sym, ap, ◌∙◌, subst}
+use Rattle.std.specs.Prelude.{◌≡◌, ℕ, Bool, true, false, if◌then◌else◌, List, Option, Some, None, is_some}
+use Rattle.std.proofs.Common.{refl, sym, ap, ◌∙◌}
 use Rattle.dsm_base.specs.declared.names.Lock.{Lock}
 use Rattle.dsm_base.specs.declared.names.Mode.{Mode}
 use Rattle.dsm_base.specs.declared.names.Fault.{Fault}
@@ -8,12 +8,10 @@ use Rattle.dsm_base.specs.declared.label.Label.{Label}
 use Rattle.dsm_base.specs.declared.label.Want.{Want}
 use Rattle.dsm_base.specs.declared.setup.Piece.{Piece}
 use Rattle.dsm_base.specs.declared.setup.Setup.{Setup}
-use Rattle.dsm_base.specs.Family.{all_below}
-use Rattle.dsm_base.specs.Access.{Rights, may_load, may_store}
-use Rattle.dsm_base.specs.Plain.{Surroundings, label_of, PlainState, seen_by, can_take, can_cross, is_possible, plain_turn_of, may_stand_beside}
+use Rattle.dsm_base.specs.Access.{may_load}
+use Rattle.dsm_base.specs.Plain.{Surroundings, label_of, PlainState, seen_by, can_take, is_possible, plain_turn_of}
 use Rattle.dsm_trace.specs.declared.message.MailGrant.{MailGrant}
-use Rattle.dsm_trace.specs.Locks.{are_shared}
-use Rattle.dsm_trace.specs.Processor.{is_ready, version_of}
+use Rattle.dsm_trace.specs.Processor.{is_ready}
 
 -- two that see the same of what the want reads come to the same label
 pub record IsSameSight (pieces : List Piece) (p : ℕ) (own seen : Surroundings) : Type 0 where

@@ -1,3 +1,4 @@
+pub mod Members
 pub mod Holders
 pub mod Places
 pub mod Moves

@@ -1,21 +1,9 @@
 -- How the place of one processor's right moves, and what is told of it by what is seen.
-use Rattle.std.specs.Prelude.{◌≡◌, ◌≢◌, ℕ, ◌+◌, ◌==◌, Bool, true, false, if◌then◌else◌, List, [], ◌∷◌, ◌++◌, Option, Some, None}
-use Rattle.std.proofs.Common.{arith, refl, sym, ap, ◌∙◌, subst, inl, inr}
-use Rattle.std.proofs.lemmas.Bool.Decides.{eqb_tells}
+use Rattle.std.specs.Prelude.{◌≡◌, ℕ, ◌+◌, true, false, List, [], ◌∷◌, ◌++◌, Option, Some, None}
+use Rattle.std.proofs.Common.{refl, sym, ap, ◌∙◌}
 use Rattle.dsm_base.specs.declared.names.Mode.{Mode}
-use Rattle.dsm_trace.specs.declared.message.CellValue.{CellValue}
 use Rattle.dsm_trace.specs.declared.message.MailGrant.{MailGrant}
-use Rattle.dsm_trace.specs.declared.lock.Waiting.{Waiting}
-use Rattle.dsm_trace.specs.Effects.{processor_named}
-use Rattle.dsm_laws_locks.proofs.Places.{Word, Asks, Gives, Grants, Side, Saved, Place, Out, Asked, Queued, Granted, Mailed, Holding, Left, Leaving, request, side_at, IsCurrent, Makes, Brings}
-
--- what holds of a changed member and of the others holds of all
-pub one_changed : {P : ℕ → Type 0} (p : ℕ) → ((p == p) ≡ true → P p) → ((q : ℕ) → (q == p) ≡ false → P q) → (q : ℕ) → P q
-one_changed {P} p here others q =
-    elim (eqb_tells q p) [
-      inl (t, i) ↦ subst P (sym i) (here (rw i at t))
-    | inr (t, _) ↦ others q t
-    ]
+use Rattle.dsm_laws_locks.proofs.Places.{Word, Asks, Gives, Grants, Side, Saved, Place, Out, Asked, Queued, Granted, Mailed, Holding, Left, Leaving, request, side_at, Makes, Brings}
 
 -- a place once a request in this mode is under way
 abbrev pub after_ask : Mode → Place → Place

@@ -1,21 +1,20 @@
 -- A processor that is as its turns have left it, beside the machine of one memory after the same turns.
-use Rattle.std.specs.Prelude.{◌≡◌, ◌≢◌, ℕ, ℤ, pos, ◌+◌, ◌≤◌, ◌<◌, ◌==◌, Bool, true, false, if◌then◌else◌, List, [], ◌∷◌, Option, Some, None, is_some, option_map}
-use Rattle.std.proofs.Common.{arith, refl, sym, ap, ap₂, ◌∙◌, subst}
+use Rattle.std.specs.Prelude.{◌≡◌, ℕ, ◌+◌, Bool, true, false, List, [], ◌∷◌, Option, Some, None, is_some, option_map}
+use Rattle.std.proofs.Common.{refl, sym, ap, ◌∙◌}
 use Rattle.dsm_base.specs.declared.names.Mode.{Mode}
 use Rattle.dsm_base.specs.declared.label.Label.{Label}
 use Rattle.dsm_base.specs.declared.setup.Setup.{Setup}
-use Rattle.dsm_base.specs.Access.{Rights, may_load}
+use Rattle.dsm_base.specs.Access.{Rights}
 use Rattle.dsm_base.specs.Threads.{Semantics, state_after}
-use Rattle.dsm_base.specs.Plain.{Turn, PlainState, IsPlainRun, after_run, labels_of, label_of, seen_by}
-use Rattle.dsm_trace.specs.declared.message.MailGrant.{MailGrant}
+use Rattle.dsm_base.specs.Plain.{IsPlainRun, after_run, labels_of, label_of, seen_by}
 use Rattle.dsm_trace.specs.OneMemory.{BindsLocksOnly}
-use Rattle.dsm_trace.specs.Processor.{Processor, Deed, grant_for, brought, is_ready, own_view, own_label, own_turn}
-use Rattle.dsm_trace.specs.History.{deed_labels, own_copy}
+use Rattle.dsm_trace.specs.Processor.{Processor, Deed, grant_for, brought, is_ready, own_view, own_turn}
+use Rattle.dsm_trace.specs.History.{deed_labels}
 use Rattle.dsm_trace.proofs.Deeds.{held_by, versions_by, crossed_by, IsLeftBy}
 use Rattle.dsm_laws_runs.specs.OwnPart.{held_of, crossed_of, own_versions_of}
-use Rattle.dsm_laws_runs.specs.Versions.{AllAskFirst, IsCellOf, SameAt}
+use Rattle.dsm_laws_runs.specs.Versions.{AllAskFirst, SameAt}
 use Rattle.dsm_laws_runs.specs.Steps.{Step, turns_of, deeds_by, IsAdequate}
-use Rattle.dsm_laws_runs.specs.Agreement.{AgreesAt, AgreesAfter}
+use Rattle.dsm_laws_runs.specs.Agreement.{AgreesAfter}
 use Rattle.dsm_laws_runs.proofs.OwnPart.{own_thread, own_held, own_crossed}
 use Rattle.dsm_laws_runs.proofs.Steps.{same_labels}
 use Rattle.dsm_laws_runs.proofs.Access.{BoundTo, bound_to, may_load_is, loaded_in_piece}
@@ -81,11 +80,8 @@ pub record IsOwnTurn {S : Type 0} (setup : Setup) (threads : Semantics S) (p : �
   pub is_cells : deed.cells ≡ brought (grant_for (s.turns + 1) s.mail) deed.label
 
 pub own_turn_is : {S : Type 0} (setup : Setup) (threads : Semantics S) (p : ℕ) (s : Processor S) (deed : Deed) → own_turn setup threads p s ≡ Some deed → IsOwnTurn setup threads p s deed
-own_turn_is setup threads p s deed e = go (is_ready (grant_for (s.turns + 1) s.mail) (threads.want s.thread)) refl (label_of setup.bindings p (own_view s) (threads.text s.thread) (threads.want s.thread)) refl
+own_turn_is setup threads p s deed e = go (is_ready (grant_for (s.turns + 1) s.mail) (threads.want s.thread)) refl
   where
-    deed_with : Option Label → Option Deed
-    deed_with o = option_map (λ label. record { label = label; cells = brought (grant_for (s.turns + 1) s.mail) label }) o
-
     made : (o : Option Label) → option_map (λ label. record { label = label; cells = brought (grant_for (s.turns + 1) s.mail) label }) o ≡ Some deed →
         (o ≡ Some deed.label) × (deed.cells ≡ brought (grant_for (s.turns + 1) s.mail) deed.label)
     made None k = absurd (cc)
@@ -94,9 +90,9 @@ own_turn_is setup threads p s deed e = go (is_ready (grant_for (s.turns + 1) s.m
         let l : deed.label ≡ label = ap (λ x. x.label) d in
         (ap (λ x. Some x) (sym l), ap (λ x. x.cells) d ∙ ap (brought (grant_for (s.turns + 1) s.mail)) (sym l))
 
-    go : (b : Bool) → is_ready (grant_for (s.turns + 1) s.mail) (threads.want s.thread) ≡ b → (o : Option Label) → label_of setup.bindings p (own_view s) (threads.text s.thread) (threads.want s.thread) ≡ o → IsOwnTurn setup threads p s deed
-    go true r o l =
+    go : (b : Bool) → is_ready (grant_for (s.turns + 1) s.mail) (threads.want s.thread) ≡ b → IsOwnTurn setup threads p s deed
+    go true r =
         let k : option_map (λ label. record { label = label; cells = brought (grant_for (s.turns + 1) s.mail) label }) (label_of setup.bindings p (own_view s) (threads.text s.thread) (threads.want s.thread)) ≡ Some deed = rw r at e in
         let m = made (label_of setup.bindings p (own_view s) (threads.text s.thread) (threads.want s.thread)) k in
         record { is_ready = r; is_label = m.0; is_cells = m.1 }
-    go false r o l = let k : None ≡ Some deed = rw r at e in absurd (cc)
+    go false r = let k : None ≡ Some deed = rw r at e in absurd (cc)

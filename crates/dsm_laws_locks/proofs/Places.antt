@@ -1,12 +1,11 @@
 -- Where a processor's right to a lock is, and what is seen of the lock at each place.
-use Rattle.std.specs.Prelude.{◌≡◌, ◌≢◌, ℕ, ◌+◌, ◌==◌, Bool, true, false, if◌then◌else◌, List, [], ◌∷◌, ◌++◌, filter, Option, Some, None}
+use Rattle.std.specs.Prelude.{◌≡◌, ℕ, ◌+◌, ◌==◌, Bool, true, false, if◌then◌else◌, List, [], ◌∷◌, filter, Option, Some, None}
 use Rattle.dsm_base.specs.declared.names.Mode.{Mode}
 use Rattle.dsm_base.specs.declared.label.Want.{Want}
 use Rattle.dsm_trace.specs.declared.message.Body.{Body}
 use Rattle.dsm_trace.specs.declared.message.CellValue.{CellValue}
 use Rattle.dsm_trace.specs.declared.message.Letter.{Letter}
 use Rattle.dsm_trace.specs.declared.message.MailGrant.{MailGrant}
-use Rattle.dsm_trace.specs.declared.lock.Holder.{Holder}
 use Rattle.dsm_trace.specs.declared.lock.Waiting.{Waiting}
 use Rattle.dsm_trace.specs.declared.lock.LockState.{LockState}
 use Rattle.dsm_trace.specs.Locks.{is_compatible}

@@ -1,32 +1,31 @@
 -- What holds after every unit, and what a processor's next turn tells where it holds.
-use Rattle.std.specs.Prelude.{◌≡◌, ◌≢◌, ℕ, ◌+◌, ◌<◌, ◌==◌, Bool, true, false, if◌then◌else◌, List, [], ◌∷◌, Option, Some, None, is_some}
-use Rattle.std.proofs.Common.{arith, refl, sym, ap, ◌∙◌, subst}
+use Rattle.std.specs.Prelude.{◌≡◌, ℕ, ◌+◌, ◌<◌, true, List, ◌∷◌, Option, Some, None, is_some}
+use Rattle.std.proofs.Common.{refl, sym, ap, ◌∙◌, subst}
 use Rattle.dsm_base.specs.declared.names.Lock.{Lock}
 use Rattle.dsm_base.specs.declared.names.Mode.{Mode}
 use Rattle.dsm_base.specs.declared.label.Label.{Label}
 use Rattle.dsm_base.specs.declared.label.Want.{Want}
 use Rattle.dsm_base.specs.declared.setup.Setup.{Setup}
-use Rattle.dsm_base.specs.Family.{update}
-use Rattle.dsm_base.specs.Threads.{Semantics, AsksFirst, state_after}
-use Rattle.dsm_base.specs.Plain.{Turn, PlainState, IsPlainRun, after_run, plain_turn, plain_turn_of, held_after, versions_after, label_of}
+use Rattle.dsm_base.specs.Threads.{Semantics, AsksFirst}
+use Rattle.dsm_base.specs.Plain.{Turn, PlainState, IsPlainRun, after_run, plain_turn, plain_turn_of, held_after, versions_after}
 use Rattle.dsm_trace.specs.declared.message.CellValue.{CellValue}
 use Rattle.dsm_trace.specs.declared.message.MailGrant.{MailGrant}
 use Rattle.dsm_trace.specs.OneMemory.{BindsLocksOnly}
-use Rattle.dsm_trace.specs.Processor.{Processor, Deed, grant_for, brought, cells_in, version_of, own_view, processor_after, mail_after}
-use Rattle.dsm_trace.specs.History.{deed_labels, own_copy}
+use Rattle.dsm_trace.specs.Processor.{Processor, grant_for, version_of, own_view, processor_after, mail_after}
+use Rattle.dsm_trace.specs.History.{deed_labels}
 use Rattle.dsm_trace.specs.Told.{Told}
 use Rattle.dsm_trace.proofs.Deeds.{IsLeftBy}
-use Rattle.dsm_laws_runs.specs.Versions.{AllAskFirst, memory_at}
-use Rattle.dsm_laws_runs.specs.Steps.{Step, turns_of, deeds_by, BringsLock, Brings, IsAdequate}
-use Rattle.dsm_laws_locks.proofs.Places.{Place, View, mail_of, taking_of, IsCurrent, IsSound}
+use Rattle.dsm_laws_runs.specs.Versions.{AllAskFirst}
+use Rattle.dsm_laws_runs.specs.Steps.{Step, turns_of, deeds_by, IsAdequate}
+use Rattle.dsm_laws_locks.proofs.Places.{Place, View, mail_of, taking_of, IsSound}
 use Rattle.dsm_laws_locks.proofs.Desks.{Sound}
 use Rattle.dsm_laws_locks.proofs.Turns.{stayed}
 use Rattle.dsm_laws_locks.proofs.Views.{view_of, with_processor}
-use Rattle.dsm_laws_locks.proofs.Changes.{turned_view, turn_view, stayed_view}
+use Rattle.dsm_laws_locks.proofs.Changes.{turn_view, stayed_view}
 use Rattle.dsm_laws_locks.proofs.Routes.{IsRouted}
-use Rattle.dsm_laws_locks.proofs.Wants.{Shown, shown, taken_in, asked_in, taking_shown, take_wanted, taking_after}
+use Rattle.dsm_laws_locks.proofs.Wants.{Shown, shown, taken_in, asked_in, taking_shown, taking_after}
 use Rattle.dsm_laws_locks.proofs.Labels.{IsGrantFor, same_label}
-use Rattle.dsm_laws_locks.proofs.Saved.{IsSaved, AreWithin, saved_later, saved_brings}
+use Rattle.dsm_laws_locks.proofs.Saved.{IsSaved, AreWithin, saved_later}
 use Rattle.dsm_laws_locks.proofs.Own.{same_thread, same_held, same_sight, IsOwnTurn}
 use Rattle.dsm_laws_locks.proofs.Taking.{IsTaken, is_taken, taken_current, taken_possible}
 
@@ -92,10 +91,10 @@ module _ {S : Type 0} (setup : Setup) (first : ℕ → S) (threads : Semantics S
     is_plain =
         subst (λ x. plain_turn_of setup plain p (threads.text x) (threads.want x) ≡ Some label) (same_thread setup first threads steps p (t.processors p) (left p))
         (same_label setup p (own_view (t.processors p)) plain (threads.text (t.processors p).thread)
-          (same_sight setup first threads steps p (t.processors p) (left p) (all_ask setup first threads locked) reached.is_run reached.is_adequate locked.binds)
-          (grant_for ((t.processors p).turns + 1) (t.processors p).mail) (threads.want (t.processors p).thread) label
-          (λ lock mode want some. can_take_by lock mode (grant_for ((t.processors p).turns + 1) (t.processors p).mail) refl want some)
-          (rw own.is_ready own.is_label))
+        (same_sight setup first threads steps p (t.processors p) (left p) (all_ask setup first threads locked) reached.is_run reached.is_adequate locked.binds)
+        (grant_for ((t.processors p).turns + 1) (t.processors p).mail) (threads.want (t.processors p).thread) label
+        (λ lock mode want some. can_take_by lock mode (grant_for ((t.processors p).turns + 1) (t.processors p).mail) refl want some)
+        (rw own.is_ready own.is_label))
 
     is_shown : Shown (threads.want (t.processors p).thread) label
     is_shown = shown setup.bindings p (own_view (t.processors p)) (threads.text (t.processors p).thread) (threads.want (t.processors p).thread) label own.is_label
@@ -118,6 +117,6 @@ module _ {S : Type 0} (setup : Setup) (first : ℕ → S) (threads : Semantics S
         sounds _ _ _ _ (reached.sound lock).places
         (sym (ap (λ held. versions_after plain.versions held label lock) (sym (held_is p)) ∙ still.same_version))
         (sym (turn_view setup threads t p label cells lock (taking_next lock)
-          ∙ stayed_view p _ _ _ (view_of setup threads t lock) still.same_mail still.same_hold (still.no_ask ∙ sym still.no_take ∙ sym (taking_before lock))))
+        ∙ stayed_view p _ _ _ (view_of setup threads t lock) still.same_mail still.same_hold (still.no_ask ∙ sym still.no_take ∙ sym (taking_before lock))))
         (stayed (saved_later setup first threads this_turn (turns_of steps) lock) (plain.versions lock) lock (view_of setup threads t lock) (reached.sound lock).places (reached.sound lock).sound p
-          (taking_before lock ∙ still.no_take))
+        (taking_before lock ∙ still.no_take))

@@ -1,11 +1,11 @@
 -- Requests and releases go to the home of their lock, grants come from it, and no message goes to its sender.
-use Rattle.std.specs.Prelude.{◌≡◌, ◌≢◌, ℕ, ◌+◌, ◌==◌, Bool, true, false, not, if◌then◌else◌, List, [], ◌∷◌, ◌++◌, map, filter}
+use Rattle.std.specs.Prelude.{◌≡◌, ◌≢◌, ℕ, ◌+◌, not, List, [], ◌∷◌, ◌++◌, map, filter}
 use Rattle.std.specs.List.{AllByRecursion}
-use Rattle.std.proofs.Common.{arith, refl, sym, ap, ◌∙◌, subst, inl, inr}
+use Rattle.std.proofs.Common.{refl, sym, inl, inr}
 use Rattle.std.proofs.lemmas.Bool.Decides.{eqb_tells}
 use Rattle.dsm_base.specs.declared.names.Lock.{Lock}
 use Rattle.dsm_base.specs.declared.setup.Setup.{Setup}
-use Rattle.dsm_base.specs.Family.{update, update_at}
+use Rattle.dsm_base.specs.Family.{update_at}
 use Rattle.dsm_trace.specs.declared.message.Body.{Body}
 use Rattle.dsm_trace.specs.declared.message.Msg.{Msg}
 use Rattle.dsm_trace.specs.declared.message.Letter.{Letter}
@@ -68,6 +68,6 @@ pub grants_routed : (setup : Setup) (me turn : ℕ) (lock : Lock) (state : LockS
 grants_routed setup me turn lock state [] home = tt
 grants_routed setup me turn lock state (w ∷ ws) home =
     elim (eqb_tells w.proc.0 me) [
-      inl (e, _) ↦ rw e (grants_routed setup me turn lock state ws home)
-    | inr (e, n) ↦ rw e (record { apart = λ i. n (sym i); heads = home }, grants_routed setup me turn lock state ws home)
+      | inl (e, _) ↦ rw e (grants_routed setup me turn lock state ws home)
+      | inr (e, n) ↦ rw e (record { apart = λ i. n (sym i); heads = home }, grants_routed setup me turn lock state ws home)
     ]

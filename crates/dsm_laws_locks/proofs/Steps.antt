@@ -1,5 +1,5 @@
 -- A turn with what it sends or handles at home keeps the rights of every lock sound.
-use Rattle.std.specs.Prelude.{◌≡◌, ◌≢◌, ℕ, ◌+◌, ◌<◌, ◌==◌, Bool, true, false, nat_lt, if◌then◌else◌, List, [], ◌∷◌, ◌++◌, filter, Option, Some, None, is_some}
+use Rattle.std.specs.Prelude.{◌≡◌, ◌≢◌, ℕ, ◌+◌, ◌<◌, ◌==◌, true, false, nat_lt, List, [], ◌∷◌, ◌++◌, filter, Option, Some, None, is_some}
 use Rattle.std.proofs.Common.{arith, refl, sym, ap, ap₂, ◌∙◌, subst, inl, inr, append-nil, true≢false}
 use Rattle.std.proofs.lemmas.Bool.Decides.{eqb_tells}
 use Rattle.dsm_base.specs.declared.names.Lock.{Lock}
@@ -8,42 +8,33 @@ use Rattle.dsm_base.specs.declared.label.Label.{Label}
 use Rattle.dsm_base.specs.declared.label.Want.{Want}
 use Rattle.dsm_base.specs.declared.setup.Setup.{Setup}
 use Rattle.dsm_base.specs.Family.{update}
-use Rattle.dsm_base.specs.Access.{is_exclusive}
 use Rattle.dsm_base.specs.Threads.{Semantics}
-use Rattle.dsm_base.specs.Plain.{Turn, PlainState, after_run, plain_turn, held_after, versions_after}
+use Rattle.dsm_base.specs.Plain.{after_run}
 use Rattle.dsm_trace.specs.declared.message.Body.{Body}
-use Rattle.dsm_trace.specs.declared.message.Msg.{Msg}
 use Rattle.dsm_trace.specs.declared.message.CellValue.{CellValue}
 use Rattle.dsm_trace.specs.declared.message.MailGrant.{MailGrant}
 use Rattle.dsm_trace.specs.declared.lock.Waiting.{Waiting}
-use Rattle.dsm_trace.specs.declared.lock.LockState.{LockState}
 use Rattle.dsm_trace.specs.Locks.{home_of, cells_of, values_of, asked, granted_by_ask, given, granted_by_give}
-use Rattle.dsm_trace.specs.Processor.{Processor, Deed, grant_for, is_ready, version_of, own_view, processor_after, mail_after}
-use Rattle.dsm_trace.specs.Effects.{message, granted, grant_message, waiting_of, body_of, lock_in}
+use Rattle.dsm_trace.specs.Processor.{Processor, grant_for, own_view, processor_after}
+use Rattle.dsm_trace.specs.Effects.{message, waiting_of, body_of, lock_in}
 use Rattle.dsm_trace.specs.Told.{Told}
 use Rattle.dsm_trace.proofs.Deeds.{IsLeftBy}
-use Rattle.dsm_trace.proofs.Units.{sent_all, next_by_step}
+use Rattle.dsm_trace.proofs.Units.{next_by_step}
 use Rattle.dsm_laws_runs.specs.Versions.{makes_version}
 use Rattle.dsm_laws_runs.specs.Steps.{Step, turns_of, deeds_by}
-use Rattle.dsm_laws_locks.proofs.Places.{Word, Asks, Gives, word_of, Place, Asked, Left, Leaving, View, side_of, Saved, mail_of, taking_of, IsCurrent, Makes, IsSound}
-use Rattle.dsm_laws_locks.proofs.Moves.{after_ask, IsMailed, is_mailed}
+use Rattle.dsm_laws_locks.proofs.Members.{same_number, if_same, at_locks, back_same, back_false}
+use Rattle.dsm_laws_locks.proofs.Places.{word_of, Asked, Left, View, side_of, Saved, mail_of, taking_of, IsSound}
+use Rattle.dsm_laws_locks.proofs.Moves.{IsMailed, is_mailed}
 use Rattle.dsm_laws_locks.proofs.Turns.{ask_sent, ask_kept, took, gave_shared, gave_exclusive}
 use Rattle.dsm_laws_locks.proofs.Desks.{Sound, next_waiting, with_grants, ask_handled, give_handled, release_sent}
-use Rattle.dsm_laws_locks.proofs.Views.{view_of, IsSameView, same_view, with_processor, granting, granting_view, granting_other, with_words, words_between, sent_view, no_words_view}
+use Rattle.dsm_laws_locks.proofs.Views.{view_of, same_view, with_processor, granting_view, granting_other, with_words, sent_view, no_words_view}
 use Rattle.dsm_laws_locks.proofs.Changes.{turned_view, turn_view, mail_filter}
-use Rattle.dsm_laws_locks.proofs.Routes.{IsRoute, IsRouted, none_to_self, sent_routed, processors_routed, grants_routed}
-use Rattle.dsm_laws_locks.proofs.Wants.{ask_free, give_held, take_wanted, asked_in, taken_in}
+use Rattle.dsm_laws_locks.proofs.Routes.{IsRouted, none_to_self, sent_routed, processors_routed, grants_routed}
+use Rattle.dsm_laws_locks.proofs.Wants.{ask_free, give_held, take_wanted}
 use Rattle.dsm_laws_locks.proofs.Saved.{IsSaved, saved_later, saved_made}
 use Rattle.dsm_laws_locks.proofs.Own.{same_copy, newest_held, IsOwnTurn}
 use Rattle.dsm_laws_locks.proofs.Taking.{IsTaken, is_taken}
-use Rattle.dsm_laws_locks.proofs.Reached.{AreSound, IsReached, IsLocked, all_ask, sounds, same_sound, IsStillAt, held_is, taking_before, taking_next, after_turn, still_at}
-
--- what holds at a lock and at all others holds at all
-pub at_locks : {P : ℕ → Type 0} (l : ℕ) → P l → ((lock : ℕ) → (l == lock) ≡ false → P lock) → (lock : ℕ) → P lock
-at_locks {P} l here others lock = elim (eqb_tells l lock) [ inl (_, i) ↦ subst P i here | inr (e, _) ↦ others lock e ]
-
-pub test_here : {A : Type 0} (n : ℕ) (a b : A) → (if n == n then a else b) ≡ a
-test_here n a b = grind arith
+use Rattle.dsm_laws_locks.proofs.Reached.{AreSound, IsReached, IsLocked, all_ask, sounds, same_sound, IsStillAt, held_is, taking_before, taking_next, still_at}
 
 -- Views.
 
@@ -52,9 +43,9 @@ to_home_view : (setup : Setup) (lock p turn : ℕ) (body : Body) (v : View) → 
     with_words setup lock (message p (home_of setup lock) turn body ∷ []) v ≡ record v { asks = update v.asks p (v.asks p ++ word_of turn body ∷ []) }
 to_home_view setup lock p turn body v same apart = same_view _ _ record {
   asks = λ q. elim (eqb_tells q p) [
-      inl (e, i) ↦ rw (e, same, test (home_of setup lock), test lock) (ap (λ x. v.asks x ++ word_of turn body ∷ []) i)
+    | inl (e, i) ↦ rw (e, same, same_number (home_of setup lock), same_number lock) (ap (λ x. v.asks x ++ word_of turn body ∷ []) i)
     | inr (e, _) ↦ rw e (append-nil (v.asks q))
-    ];
+  ];
   grants = λ q. rw apart (append-nil (v.grants q));
   mail = λ q. refl;
   held = λ q. refl;
@@ -63,12 +54,6 @@ to_home_view setup lock p turn body v same apart = same_view _ _ record {
   in_hand = λ q. refl;
   desk = refl;
 }
-  where
-    test : (n : ℕ) → (n == n) ≡ true
-    test n = grind arith
-
-pub hand_back : (p : ℕ) (in_hand : ℕ → Bool) → ((q : ℕ) → in_hand q ≡ false) → (q : ℕ) → in_hand q ≡ update (update in_hand p true) p false q
-hand_back p in_hand none q = grind (arith, none q)
 
 -- a view in which p has asked, and its request is in hand
 abbrev asking_view : ℕ → Mode → View → View
@@ -77,9 +62,6 @@ asking_view p mode v = record v { taking = update v.taking p (Some mode); turns 
 -- a view in which p has given the lock back, and its release is in hand
 abbrev giving_view : ℕ → View → View
 giving_view p v = record v { held = update v.held p None; turns = update v.turns p (v.turns p + 1); in_hand = update v.in_hand p true }
-
-pub back_same : {A : Type 0} (f : ℕ → A) (p : ℕ) (a : A) → a ≡ f p → (q : ℕ) → update f p a q ≡ f q
-back_same f p a e q = elim (eqb_tells q p) [ inl (t, i) ↦ rw t (e ∙ ap f (sym i)) | inr (t, _) ↦ rw t refl ]
 
 ask_view : (p : ℕ) (mode : Mode) (v : View) → ((q : ℕ) → v.in_hand q ≡ false) →
     turned_view p (v.mail p) (v.held p) (Some mode) v ≡ record (asking_view p mode v) { in_hand = update (asking_view p mode v).in_hand p false }
@@ -90,7 +72,7 @@ ask_view p mode v none = same_view _ _ record {
   held = back_same v.held p (v.held p) refl;
   taking = λ q. refl;
   turns = λ q. refl;
-  in_hand = hand_back p v.in_hand none;
+  in_hand = back_false p v.in_hand none;
   desk = refl;
 }
 
@@ -103,7 +85,7 @@ give_view p v none t = same_view _ _ record {
   held = λ q. refl;
   taking = back_same v.taking p None (sym t);
   turns = λ q. refl;
-  in_hand = hand_back p v.in_hand none;
+  in_hand = back_false p v.in_hand none;
   desk = refl;
 }
 
@@ -111,9 +93,6 @@ module _ {S : Type 0} (setup : Setup) (first : ℕ → S) (threads : Semantics S
     (left : (q : ℕ) → IsLeftBy threads (first q) (deeds_by q steps) (t.processors q)) (p : ℕ) (lt : p < setup.procs) where
   abbrev s : Processor S
   s = t.processors p
-
-  abbrev run : List Turn
-  run = turns_of steps
 
   abbrev after_label : Label → List CellValue → Processor S
   after_label label cells = processor_after threads s label cells
@@ -148,7 +127,7 @@ module _ {S : Type 0} (setup : Setup) (first : ℕ → S) (threads : Semantics S
     ask_turned : view_of setup threads (with_processor t p (after_label (Label.Ask lock mode) cells)) lock.0 ≡ turned_view p (v_ask.mail p) (v_ask.held p) (Some mode) v_ask
     ask_turned =
         turn_view setup threads t p (Label.Ask lock mode) cells lock.0 (taking_next setup first threads locked steps t reached left p lt (Label.Ask lock mode) cells own lock.0)
-        ∙ ap (λ taking. turned_view p (v_ask.mail p) (v_ask.held p) taking v_ask) (test_here lock.0 (Some mode) None)
+        ∙ ap (λ taking. turned_view p (v_ask.mail p) (v_ask.held p) taking v_ask) (if_same lock.0 (Some mode) None)
 
     ask_others : (l : ℕ) → (lock.0 == l) ≡ false → Sound (IsSaved setup first threads (record { proc = p; label = Label.Ask lock mode } ∷ turns_of steps) l)
         ((after_run first threads (record { proc = p; label = Label.Ask lock mode } ∷ turns_of steps)).versions l) l (view_of setup threads (with_processor t p (after_label (Label.Ask lock mode) cells)) l)
@@ -160,14 +139,14 @@ module _ {S : Type 0} (setup : Setup) (first : ℕ → S) (threads : Semantics S
       is_routed = sent_routed setup _ (message p (home_of setup lock.0) (s.turns + 1) (Body.Req lock mode) ∷ []) (record { apart = λ i. ne (sym i); heads = refl }, tt) (processors_routed setup t _ reached.is_routed);
       sound = at_locks lock.0
           (sounds _ _ _ _ _ refl
-            (sym (sent_view setup threads lock.0 (with_processor t p (after_label (Label.Ask lock mode) cells)) (message p (home_of setup lock.0) (s.turns + 1) (Body.Req lock mode) ∷ [])
-              ∙ ap (with_words setup lock.0 (message p (home_of setup lock.0) (s.turns + 1) (Body.Req lock mode) ∷ [])) (ask_turned ∙ still_ask)
-              ∙ to_home_view setup lock.0 p (s.turns + 1) (Body.Req lock mode) (record v_ask { taking = update v_ask.taking p (Some mode); turns = update v_ask.turns p (v_ask.turns p + 1) }) refl apart))
-            (ask_sent (saved_later setup first threads record { proc = p; label = Label.Ask lock mode } (turns_of steps) lock.0) _ lock.0 v_ask _ (reached.sound lock.0).sound p mode ask_not_taking ask_not_held refl))
+          (sym (sent_view setup threads lock.0 (with_processor t p (after_label (Label.Ask lock mode) cells)) (message p (home_of setup lock.0) (s.turns + 1) (Body.Req lock mode) ∷ [])
+          ∙ ap (with_words setup lock.0 (message p (home_of setup lock.0) (s.turns + 1) (Body.Req lock mode) ∷ [])) (ask_turned ∙ still_ask)
+          ∙ to_home_view setup lock.0 p (s.turns + 1) (Body.Req lock mode) (record v_ask { taking = update v_ask.taking p (Some mode); turns = update v_ask.turns p (v_ask.turns p + 1) }) refl apart))
+          (ask_sent (saved_later setup first threads record { proc = p; label = Label.Ask lock mode } (turns_of steps) lock.0) _ lock.0 v_ask _ (reached.sound lock.0).sound p mode ask_not_taking ask_not_held refl))
           (λ l other. same_sound
-            (sym (sent_view setup threads l (with_processor t p (after_label (Label.Ask lock mode) cells)) (message p (home_of setup lock.0) (s.turns + 1) (Body.Req lock mode) ∷ [])
-              ∙ no_words_view setup l (message p (home_of setup lock.0) (s.turns + 1) (Body.Req lock mode) ∷ []) _ (other, tt)))
-            (ask_others l other));
+          (sym (sent_view setup threads l (with_processor t p (after_label (Label.Ask lock mode) cells)) (message p (home_of setup lock.0) (s.turns + 1) (Body.Req lock mode) ∷ [])
+          ∙ no_words_view setup l (message p (home_of setup lock.0) (s.turns + 1) (Body.Req lock mode) ∷ []) _ (other, tt)))
+          (ask_others l other));
     })
       where
         still_ask : turned_view p (v_ask.mail p) (v_ask.held p) (Some mode) v_ask ≡ record v_ask { taking = update v_ask.taking p (Some mode); turns = update v_ask.turns p (v_ask.turns p + 1) }
@@ -188,13 +167,13 @@ module _ {S : Type 0} (setup : Setup) (first : ℕ → S) (threads : Semantics S
       is_routed = sent_routed setup _ _ (grants_routed setup p (s.turns + 1) lock (asked (s.locks lock.0) w) (granted_by_ask (s.locks lock.0) w) home) (processors_routed setup t _ reached.is_routed);
       sound = at_locks lock.0
           (same_sound
-            (ap₂ (λ d x. with_grants p lock.0 (granted_by_ask d x) (asked d x) (record (asking_view p mode v_ask) { in_hand = update (asking_view p mode v_ask).in_hand p false })) desk turn
-              ∙ ap (with_grants p lock.0 (granted_by_ask (s.locks lock.0) w) (asked (s.locks lock.0) w)) (sym (ask_turned ∙ ask_view p mode v_ask (λ q. refl)))
-              ∙ sym (granting_view setup threads t p (after_label (Label.Ask lock mode) cells) lock (asked (s.locks lock.0) w) (granted_by_ask (s.locks lock.0) w) home))
-            (ask_handled _ lock.0 (asking_view p mode v_ask) (update (reached.sound lock.0).places p (Asked mode))
-              (ask_kept (saved_later setup first threads record { proc = p; label = Label.Ask lock mode } (turns_of steps) lock.0) _ lock.0 v_ask _ (reached.sound lock.0).sound p mode
-                ask_not_taking ask_not_held refl none)
-              p p mode (test_here p (Asked mode) ((reached.sound lock.0).places p))))
+          (ap₂ (λ d x. with_grants p lock.0 (granted_by_ask d x) (asked d x) (record (asking_view p mode v_ask) { in_hand = update (asking_view p mode v_ask).in_hand p false })) desk turn
+          ∙ ap (with_grants p lock.0 (granted_by_ask (s.locks lock.0) w) (asked (s.locks lock.0) w)) (sym (ask_turned ∙ ask_view p mode v_ask (λ q. refl)))
+          ∙ sym (granting_view setup threads t p (after_label (Label.Ask lock mode) cells) lock (asked (s.locks lock.0) w) (granted_by_ask (s.locks lock.0) w) home))
+          (ask_handled _ lock.0 (asking_view p mode v_ask) (update (reached.sound lock.0).places p (Asked mode))
+          (ask_kept (saved_later setup first threads record { proc = p; label = Label.Ask lock mode } (turns_of steps) lock.0) _ lock.0 v_ask _ (reached.sound lock.0).sound p mode
+          ask_not_taking ask_not_held refl none)
+          p p mode (if_same p (Asked mode) ((reached.sound lock.0).places p))))
           (λ l other. same_sound (sym (granting_other setup threads t p (after_label (Label.Ask lock mode) cells) lock (asked (s.locks lock.0) w) (granted_by_ask (s.locks lock.0) w) l other)) (ask_others l other));
     })
       where
@@ -205,7 +184,7 @@ module _ {S : Type 0} (setup : Setup) (first : ℕ → S) (threads : Semantics S
         desk = ap (λ x. (t.processors x).locks lock.0) home
 
         turn : next_waiting p (update v_ask.turns p (v_ask.turns p + 1) p) mode ≡ waiting_of p (s.turns + 1) mode
-        turn = ap (λ n. next_waiting p n mode) (test_here p (v_ask.turns p + 1) (v_ask.turns p))
+        turn = ap (λ n. next_waiting p n mode) (if_same p (v_ask.turns p + 1) (v_ask.turns p))
 
         none : v_ask.asks p ≡ []
         none = rw home (rw (none_to_self setup t reached.is_routed p) refl)
@@ -214,8 +193,8 @@ module _ {S : Type 0} (setup : Setup) (first : ℕ → S) (threads : Semantics S
       IsTurned (Label.Ask lock mode) (next_by_step setup threads t p (Some record { label = Label.Ask lock mode; cells = cells }))
   ask_turn lock mode cells own =
       elim (eqb_tells (home_of setup lock.0) p) [
-        inl (e, i) ↦ ask_home lock mode cells own e i
-      | inr (e, n) ↦ ask_away lock mode cells own e n
+        | inl (e, i) ↦ ask_home lock mode cells own e i
+        | inr (e, n) ↦ ask_away lock mode cells own e n
       ]
 
   -- Gives.
@@ -239,7 +218,7 @@ module _ {S : Type 0} (setup : Setup) (first : ℕ → S) (threads : Semantics S
     give_turned : view_of setup threads (with_processor t p (after_label (Label.Give lock) cells)) lock.0 ≡ turned_view p (v_give.mail p) None None v_give
     give_turned =
         turn_view setup threads t p (Label.Give lock) cells lock.0 (taking_next setup first threads locked steps t reached left p lt (Label.Give lock) cells own lock.0)
-        ∙ ap (λ held. turned_view p (v_give.mail p) held None v_give) (test_here lock.0 None (s.held lock.0))
+        ∙ ap (λ held. turned_view p (v_give.mail p) held None v_give) (if_same lock.0 None (s.held lock.0))
 
     give_others : (l : ℕ) → (lock.0 == l) ≡ false → Sound (IsSaved setup first threads (record { proc = p; label = Label.Give lock } ∷ turns_of steps) l)
         ((after_run first threads (record { proc = p; label = Label.Give lock } ∷ turns_of steps)).versions l) l (view_of setup threads (with_processor t p (after_label (Label.Give lock) cells)) l)
@@ -254,14 +233,14 @@ module _ {S : Type 0} (setup : Setup) (first : ℕ → S) (threads : Semantics S
             (processors_routed setup t _ reached.is_routed);
         sound = at_locks lock.0
             (sounds _ _ _ _ _ refl
-              (sym (sent_view setup threads lock.0 (with_processor t p (after_label (Label.Give lock) cells)) (message p (home_of setup lock.0) (s.turns + 1) (Body.Release lock mode saved.version saved.cells) ∷ [])
-                ∙ ap (with_words setup lock.0 (message p (home_of setup lock.0) (s.turns + 1) (Body.Release lock mode saved.version saved.cells) ∷ [])) (give_turned ∙ give_view p v_give (λ q. refl) give_not_taking)
-                ∙ to_home_view setup lock.0 p (s.turns + 1) (Body.Release lock mode saved.version saved.cells) (record (giving_view p v_give) { in_hand = update (giving_view p v_give).in_hand p false }) refl apart))
-              (release_sent newest_after lock.0 (giving_view p v_give) _ gave p mode saved (test_here p (Left mode saved None) ((reached.sound lock.0).places p))))
+            (sym (sent_view setup threads lock.0 (with_processor t p (after_label (Label.Give lock) cells)) (message p (home_of setup lock.0) (s.turns + 1) (Body.Release lock mode saved.version saved.cells) ∷ [])
+            ∙ ap (with_words setup lock.0 (message p (home_of setup lock.0) (s.turns + 1) (Body.Release lock mode saved.version saved.cells) ∷ [])) (give_turned ∙ give_view p v_give (λ q. refl) give_not_taking)
+            ∙ to_home_view setup lock.0 p (s.turns + 1) (Body.Release lock mode saved.version saved.cells) (record (giving_view p v_give) { in_hand = update (giving_view p v_give).in_hand p false }) refl apart))
+            (release_sent newest_after lock.0 (giving_view p v_give) _ gave p mode saved (if_same p (Left mode saved None) ((reached.sound lock.0).places p))))
             (λ l other. same_sound
-              (sym (sent_view setup threads l (with_processor t p (after_label (Label.Give lock) cells)) (message p (home_of setup lock.0) (s.turns + 1) (Body.Release lock mode saved.version saved.cells) ∷ [])
-                ∙ no_words_view setup l (message p (home_of setup lock.0) (s.turns + 1) (Body.Release lock mode saved.version saved.cells) ∷ []) _ (other, tt)))
-              (give_others l other));
+            (sym (sent_view setup threads l (with_processor t p (after_label (Label.Give lock) cells)) (message p (home_of setup lock.0) (s.turns + 1) (Body.Release lock mode saved.version saved.cells) ∷ [])
+            ∙ no_words_view setup l (message p (home_of setup lock.0) (s.turns + 1) (Body.Release lock mode saved.version saved.cells) ∷ []) _ (other, tt)))
+            (give_others l other));
       })
 
       -- the release is handled at home
@@ -270,21 +249,21 @@ module _ {S : Type 0} (setup : Setup) (first : ℕ → S) (threads : Semantics S
         is_routed = sent_routed setup _ _ (grants_routed setup p (s.turns + 1) lock (given (s.locks lock.0) p mode saved.version saved.cells) (granted_by_give (s.locks lock.0) p) home) (processors_routed setup t _ reached.is_routed);
         sound = at_locks lock.0
             (same_sound
-              (ap (λ d. with_grants p lock.0 (granted_by_give d p) (given d p mode saved.version saved.cells) (record (giving_view p v_give) { in_hand = update (giving_view p v_give).in_hand p false }))
-                  (ap (λ x. (t.processors x).locks lock.0) home)
-                ∙ ap (with_grants p lock.0 (granted_by_give (s.locks lock.0) p) (given (s.locks lock.0) p mode saved.version saved.cells)) (sym (give_turned ∙ give_view p v_give (λ q. refl) give_not_taking))
-                ∙ sym (granting_view setup threads t p (after_label (Label.Give lock) cells) lock (given (s.locks lock.0) p mode saved.version saved.cells) (granted_by_give (s.locks lock.0) p) home))
-              (give_handled newest_after lock.0 (giving_view p v_give) _ gave p p mode saved None (test_here p (Left mode saved None) ((reached.sound lock.0).places p))))
+            (ap (λ d. with_grants p lock.0 (granted_by_give d p) (given d p mode saved.version saved.cells) (record (giving_view p v_give) { in_hand = update (giving_view p v_give).in_hand p false }))
+            (ap (λ x. (t.processors x).locks lock.0) home)
+            ∙ ap (with_grants p lock.0 (granted_by_give (s.locks lock.0) p) (given (s.locks lock.0) p mode saved.version saved.cells)) (sym (give_turned ∙ give_view p v_give (λ q. refl) give_not_taking))
+            ∙ sym (granting_view setup threads t p (after_label (Label.Give lock) cells) lock (given (s.locks lock.0) p mode saved.version saved.cells) (granted_by_give (s.locks lock.0) p) home))
+            (give_handled newest_after lock.0 (giving_view p v_give) _ gave p p mode saved None (if_same p (Left mode saved None) ((reached.sound lock.0).places p))))
             (λ l other. same_sound
-              (sym (granting_other setup threads t p (after_label (Label.Give lock) cells) lock (given (s.locks lock.0) p mode saved.version saved.cells) (granted_by_give (s.locks lock.0) p) l other))
-              (give_others l other));
+            (sym (granting_other setup threads t p (after_label (Label.Give lock) cells) lock (given (s.locks lock.0) p mode saved.version saved.cells) (granted_by_give (s.locks lock.0) p) l other))
+            (give_others l other));
       })
 
       given_back : IsTurned (Label.Give lock) (next_by_step setup threads t p (Some record { label = Label.Give lock; cells = cells }))
       given_back =
           elim (eqb_tells (home_of setup lock.0) p) [
-            inl (e, i) ↦ give_home e i
-          | inr (e, n) ↦ give_away e n
+            | inl (e, i) ↦ give_home e i
+            | inr (e, n) ↦ give_away e n
           ]
 
     abbrev after_give : Processor S
@@ -297,8 +276,8 @@ module _ {S : Type 0} (setup : Setup) (first : ℕ → S) (threads : Semantics S
     give_shared h =
         given_back Mode.Shared record { version = after_give.versions lock.0; cells = [] } (rw h refl)
         (subst (λ n. IsSound IsVersion_after n lock.0 (giving_view p v_give) (update (reached.sound lock.0).places p (Left Mode.Shared record { version = after_give.versions lock.0; cells = [] } None)))
-          (sym same_newest)
-          (gave_shared (saved_later setup first threads record { proc = p; label = Label.Give lock } (turns_of steps) lock.0) _ lock.0 v_give _ (reached.sound lock.0).sound p record { version = after_give.versions lock.0; cells = [] } h))
+        (sym same_newest)
+        (gave_shared (saved_later setup first threads record { proc = p; label = Label.Give lock } (turns_of steps) lock.0) _ lock.0 v_give _ (reached.sound lock.0).sound p record { version = after_give.versions lock.0; cells = [] } h))
       where
         same_newest : newest_after ≡ (after_run first threads (turns_of steps)).versions lock.0
         same_newest = rw (plain_hold Mode.Shared h) refl
@@ -307,15 +286,15 @@ module _ {S : Type 0} (setup : Setup) (first : ℕ → S) (threads : Semantics S
     give_exclusive h none =
         given_back Mode.Excl record { version = after_give.versions lock.0; cells = values_of after_give.copy (cells_of setup lock.0) } (rw h refl)
         (gave_exclusive (saved_later setup first threads record { proc = p; label = Label.Give lock } (turns_of steps) lock.0) _ lock.0 v_give _ (reached.sound lock.0).sound p
-          newest_after record { version = after_give.versions lock.0; cells = values_of after_give.copy (cells_of setup lock.0) } h
-          record { is_newest = same_newest; is_version = subst (λ n. IsVersion_after n (values_of after_give.copy (cells_of setup lock.0))) (sym same_newest) made })
+        newest_after record { version = after_give.versions lock.0; cells = values_of after_give.copy (cells_of setup lock.0) } h
+        record { is_newest = same_newest; is_version = subst (λ n. IsVersion_after n (values_of after_give.copy (cells_of setup lock.0))) (sym same_newest) made })
       where
         held_newest : s.versions lock.0 ≡ (after_run first threads (turns_of steps)).versions lock.0
         held_newest = newest_held setup first threads steps p s (left p) (all_ask setup first threads locked) reached.is_run reached.is_adequate lock.0 Mode.Excl h
 
         same_newest : after_give.versions lock.0 ≡ newest_after
-        same_newest = rw (h, plain_hold Mode.Excl h) (test_here lock.0 (s.versions lock.0 + 1) (s.versions lock.0) ∙ ap (λ n. n + 1) held_newest
-            ∙ sym (test_here lock.0 ((after_run first threads (turns_of steps)).versions lock.0 + 1) ((after_run first threads (turns_of steps)).versions lock.0)))
+        same_newest = rw (h, plain_hold Mode.Excl h) (if_same lock.0 (s.versions lock.0 + 1) (s.versions lock.0) ∙ ap (λ n. n + 1) held_newest
+            ∙ sym (if_same lock.0 ((after_run first threads (turns_of steps)).versions lock.0 + 1) ((after_run first threads (turns_of steps)).versions lock.0)))
 
         makes : makes_version lock.0 ((after_run first threads (turns_of steps)).held p) (Label.Give lock) ≡ true
         makes = rw (plain_hold Mode.Excl h) (grind arith)
@@ -343,7 +322,7 @@ module _ {S : Type 0} (setup : Setup) (first : ℕ → S) (threads : Semantics S
       go [] e = e
       go (g ∷ gs) e =
           let is : IsMailed l p s.turns (side_of (view_of setup threads t l) p) ((reached.sound l).places p) g gs =
-              is_mailed l p s.turns (side_of (view_of setup threads t l) p) g gs ((reached.sound l).places p) ((reached.sound l).sound.sides p) e in
+          is_mailed l p s.turns (side_of (view_of setup threads t l) p) g gs ((reached.sound l).places p) ((reached.sound l).sound.sides p) e in
           let k : Some g.mode ≡ None = sym is.is_wanted ∙ none in
           cc
 
@@ -368,7 +347,7 @@ module _ {S : Type 0} (setup : Setup) (first : ℕ → S) (threads : Semantics S
       is_routed = processors_routed setup t _ reached.is_routed;
       sound = at_locks lock.0
           (sounds _ _ _ _ _ refl (sym view)
-            (took (saved_later setup first threads record { proc = p; label = Label.Take lock mode version } (turns_of steps) lock.0) _ lock.0 v_take _ (reached.sound lock.0).sound p grant [] is.is_mail))
+          (took (saved_later setup first threads record { proc = p; label = Label.Take lock mode version } (turns_of steps) lock.0) _ lock.0 v_take _ (reached.sound lock.0).sound p grant [] is.is_mail))
           (λ l other. still_at setup first threads locked steps t reached left p lt (Label.Take lock mode version) cells own l (take_still l other));
     }
       where
@@ -379,7 +358,7 @@ module _ {S : Type 0} (setup : Setup) (first : ℕ → S) (threads : Semantics S
             ≡ record v_take { mail = update v_take.mail p []; held = update v_take.held p (Some grant.mode); taking = update v_take.taking p None; turns = update v_take.turns p (v_take.turns p + 1) }
         view =
             turn_view setup threads t p (Label.Take lock mode version) cells lock.0 (taking_next setup first threads locked steps t reached left p lt (Label.Take lock mode version) cells own lock.0)
-            ∙ ap₂ (λ m held. turned_view p m held None v_take) mail (test_here lock.0 (Some mode) (s.held lock.0) ∙ ap (λ m. Some m) (sym is.is_mode))
+            ∙ ap₂ (λ m held. turned_view p m held None v_take) mail (if_same lock.0 (Some mode) (s.held lock.0) ∙ ap (λ m. Some m) (sym is.is_mode))
 
     take_turn : IsTurned (Label.Take lock mode version) (next_by_step setup threads t p (Some record { label = Label.Take lock mode version; cells = cells }))
     take_turn = go (grant_for (s.turns + 1) s.mail) refl

@@ -1,5 +1,5 @@
 -- A grant for the turn in which a lock is taken: it is of this lock and mode, current, and the lock may be taken.
-use Rattle.std.specs.Prelude.{◌≡◌, ◌≢◌, ℕ, ◌+◌, ◌<◌, ◌==◌, ◌||◌, Bool, true, false, if◌then◌else◌, List, [], ◌∷◌, Option, Some, None}
+use Rattle.std.specs.Prelude.{◌≡◌, ℕ, ◌+◌, ◌==◌, ◌||◌, Bool, true, false, List, [], ◌∷◌, Option, Some, None}
 use Rattle.std.proofs.Common.{arith, refl, sym, ap, ap₂, ◌∙◌, subst, inl, inr}
 use Rattle.std.proofs.lemmas.Bool.Decides.{eqb_tells}
 use Rattle.dsm_base.specs.declared.names.Lock.{Lock}
@@ -14,15 +14,13 @@ use Rattle.dsm_trace.specs.Locks.{are_shared}
 use Rattle.dsm_trace.specs.Processor.{grant_for}
 use Rattle.dsm_trace.specs.Told.{Told}
 use Rattle.dsm_laws_runs.proofs.Families.{all_from}
+use Rattle.dsm_laws_locks.proofs.Members.{turned_false}
 use Rattle.dsm_laws_locks.proofs.Holders.{modes_of, both_shared}
-use Rattle.dsm_laws_locks.proofs.Places.{mail_of, taking_of, View, side_of, side_at, Saved, Place, Mailed, Holding, IsCurrent, Brings, IsSound}
+use Rattle.dsm_laws_locks.proofs.Places.{mail_of, taking_of, side_of, side_at, Mailed, IsCurrent, Brings}
 use Rattle.dsm_laws_locks.proofs.Moves.{IsMailed, is_mailed, is_holding}
 use Rattle.dsm_laws_locks.proofs.Desks.{Sound}
 use Rattle.dsm_laws_locks.proofs.Views.{view_of}
 use Rattle.dsm_laws_locks.proofs.Changes.{IsFound, found}
-
-other : (a b : ℕ) → (b == a) ≡ false → (a == b) ≡ false
-other a b e = grind arith
 
 stands_beside : (mode n : Mode) → are_shared mode n ≡ true → may_stand_beside mode (Some n) ≡ true
 stands_beside mode n e = grind arith
@@ -43,14 +41,14 @@ module _ {S : Type 0} (setup : Setup) (threads : Semantics S) (t : Told S) {IsVe
       grant_for ((t.processors p).turns + 1) (t.processors p).mail ≡ Some grant → IsTaken lock.0 mode grant
   is_taken lock mode grant want e =
       elim (eqb_tells lock.0 grant.lock.0) [
-        inl (u, i) ↦ subst (λ l. IsTaken l mode grant) (sym i) (record {
+        | inl (u, i) ↦ subst (λ l. IsTaken l mode grant) (sym i) (record {
           is_mode = (let k : Some mode ≡ Some at_lock.head.mode = rw u at wanted in let m : at_lock.head.mode ≡ mode = cc in ap (λ g. g.mode) (sym is_head) ∙ m);
           is_turn = ap (λ g. g.turn) (sym is_head) ∙ mailed.is_turn;
           is_mail = at_lock.is_mail ∙ ap₂ (λ g gs. g ∷ gs) is_head mailed.is_alone;
           is_place = mailed.is_place ∙ ap (λ g. Mailed g.mode record { version = g.version; cells = g.cells }) is_head
               ∙ ap (λ m. Mailed m record { version = grant.version; cells = grant.cells }) (let k : Some mode ≡ Some at_lock.head.mode = rw u at wanted in let m : at_lock.head.mode ≡ mode = cc in ap (λ g. g.mode) (sym is_head) ∙ m);
         })
-      | inr (u, _) ↦ (let k : None ≡ Some at_lock.head.mode = rw u at wanted in cc)
+        | inr (u, _) ↦ (let k : None ≡ Some at_lock.head.mode = rw u at wanted in cc)
       ]
     where
       at_lock : IsFound grant (mail_of grant.lock.0 (t.processors p).mail)
@@ -81,9 +79,9 @@ module _ {S : Type 0} (setup : Setup) (threads : Semantics S) (t : Told S) {IsVe
       theirs q n h =
           let k : (t.processors q).held lock ≡ Some n = ap (λ f. f lock) (same q) ∙ h in
           ap (λ x. x.modes) ((sound lock).sound.sides q ∙ ap (side_at lock q (t.processors q).turns)
-            (is_holding lock q (t.processors q).turns (side_of (view_of setup threads t lock) q) n ((sound lock).places q) ((sound lock).sound.sides q) k))
+          (is_holding lock q (t.processors q).turns (side_of (view_of setup threads t lock) q) n ((sound lock).places q) ((sound lock).sound.sides q) k))
 
       beside : (q : ℕ) (b : Bool) → (q == p) ≡ b → (o : Option Mode) → held q lock ≡ o → ((q == p) || may_stand_beside mode (held q lock)) ≡ true
       beside q true e o h = rw e refl
       beside q false e None h = rw (e, h) (beside_none mode)
-      beside q false e (Some n) h = rw (e, h) (stands_beside mode n (both_shared p q (view_of setup threads t lock).desk.holders mode n [] [] (sound lock).sound.compatible (other p q e) mine (theirs q n h)))
+      beside q false e (Some n) h = rw (e, h) (stands_beside mode n (both_shared p q (view_of setup threads t lock).desk.holders mode n [] [] (sound lock).sound.compatible (turned_false p q e) mine (theirs q n h)))

@@ -1,8 +1,8 @@
 -- The history of a trace that fits its units is a run over one memory, with which each processor agrees.
-use Rattle.std.specs.Prelude.{◌≡◌, ◌≢◌, ℕ, pos, ◌+◌, ◌≤◌, ◌<◌, ◌==◌, ◌&&◌, Bool, true, false, nat_le, nat_lt, if◌then◌else◌, List, [], ◌∷◌, ◌++◌, find, length, Option, Some, None, is_some}
+use Rattle.std.specs.Prelude.{◌≡◌, ℕ, ◌+◌, ◌≤◌, ◌<◌, Bool, true, false, List, [], ◌∷◌, ◌++◌, find, length, Option, Some, None}
 use Rattle.std.specs.List.{AllByRecursion}
-use Rattle.std.proofs.Common.{arith, refl, sym, ap, ap₂, ◌∙◌, subst, true≢false}
-use Rattle.std.proofs.lemmas.Bool.Decides.{eqb_tells, leb_tells}
+use Rattle.std.proofs.Common.{arith, refl, sym, ap, ◌∙◌, subst, true≢false}
+use Rattle.std.proofs.lemmas.Bool.Decides.{leb_tells}
 use Rattle.dsm_base.specs.declared.act.Act.{Act}
 use Rattle.dsm_base.specs.declared.names.Mode.{Mode}
 use Rattle.dsm_base.specs.declared.label.Label.{Label}
@@ -12,7 +12,7 @@ use Rattle.dsm_base.specs.declared.setup.Setup.{Setup}
 use Rattle.dsm_base.specs.Access.{piece_of, has_cell}
 use Rattle.dsm_base.specs.Threads.{Semantics, AsksFirst}
 use Rattle.dsm_base.specs.Agrees.{AgreesWith}
-use Rattle.dsm_base.specs.Plain.{Turn, IsPlainRun, after_run}
+use Rattle.dsm_base.specs.Plain.{IsPlainRun}
 use Rattle.dsm_base.specs.Output.{line_text}
 use Rattle.dsm_trace.specs.declared.message.CellValue.{CellValue}
 use Rattle.dsm_trace.specs.declared.message.MailGrant.{MailGrant}
@@ -20,8 +20,7 @@ use Rattle.dsm_trace.specs.declared.message.Letter.{Letter}
 use Rattle.dsm_trace.specs.declared.message.Msg.{Msg}
 use Rattle.dsm_trace.specs.declared.trace.Rec.{Rec}
 use Rattle.dsm_trace.specs.declared.trace.Group.{Group}
-use Rattle.dsm_trace.specs.Locks.{is_of_lock}
-use Rattle.dsm_trace.specs.Processor.{Processor, Deed, grant_for, own_turn, own_view, version_of}
+use Rattle.dsm_trace.specs.Processor.{Deed, grant_for, own_turn, own_view, version_of}
 use Rattle.dsm_trace.specs.Effects.{turned, handled}
 use Rattle.dsm_trace.specs.Told.{Told, start_told, told_by}
 use Rattle.dsm_trace.specs.Rows.{sent_records, out_records, step_records, delivery_records, unit_records}
@@ -30,17 +29,16 @@ use Rattle.dsm_trace.specs.History.{turns_onto, history, deeds_onto, deeds_of, d
 use Rattle.dsm_trace.specs.OneMemory.{BindsLocksOnly, IsOneMemory}
 use Rattle.dsm_trace.proofs.Units.{next_by_step, next_told, told_by_unit, trace_numbered}
 use Rattle.dsm_trace.proofs.Deeds.{IsLeftBy, trace_left}
-use Rattle.dsm_laws_runs.specs.Versions.{IsCellOf, memory_at}
-use Rattle.dsm_laws_runs.specs.Steps.{Step, turns_of, deeds_by, Brings, IsAdequate}
+use Rattle.dsm_laws_runs.specs.Versions.{memory_at}
+use Rattle.dsm_laws_runs.specs.Steps.{Step, turns_of, deeds_by, Brings}
 use Rattle.dsm_laws_runs.proofs.Copies.{agrees_with}
 use Rattle.dsm_laws_locks.specs.Within.{BindsWithin}
-use Rattle.dsm_laws_locks.proofs.Places.{taking_of, Place, Out}
+use Rattle.dsm_laws_locks.proofs.Places.{Out}
 use Rattle.dsm_laws_locks.proofs.Wants.{take_wanted, not_taking}
-use Rattle.dsm_laws_locks.proofs.Routes.{IsRouted}
-use Rattle.dsm_laws_locks.proofs.Saved.{IsSaved, AreWithin, saved_brings}
+use Rattle.dsm_laws_locks.proofs.Saved.{AreWithin, saved_brings}
 use Rattle.dsm_laws_locks.proofs.Own.{IsOwnTurn, own_turn_is}
 use Rattle.dsm_laws_locks.proofs.Taking.{IsTaken, is_taken, taken_current}
-use Rattle.dsm_laws_locks.proofs.Reached.{AreSound, IsReached, IsLocked, all_ask, is_plain}
+use Rattle.dsm_laws_locks.proofs.Reached.{IsReached, IsLocked, all_ask, is_plain}
 use Rattle.dsm_laws_locks.proofs.Steps.{IsTurned, turn_reaches}
 use Rattle.dsm_laws_locks.proofs.Deliveries.{IsDelivered, delivery_reaches}
 
@@ -132,7 +130,7 @@ module _ {S : Type 0} (setup : Setup) (first : ℕ → S) (threads : Semantics S
         by_grant grant e v c =
             let is : IsTaken setup threads t _ reached.sound p lock.0 mode grant = is_taken setup threads t _ reached.sound p lock mode grant wanted.0 e in
             rw (v, c) (saved_brings setup first threads locked.within (turns_of steps) lock.0 grant.version grant.cells (own_copy (deeds_by p steps))
-              (taken_current setup threads t _ reached.sound p lock.0 mode grant is).is_version)
+            (taken_current setup threads t _ reached.sound p lock.0 mode grant is).is_version)
 
         go : (o : Option MailGrant) → grant_for ((t.processors p).turns + 1) (t.processors p).mail ≡ o → Brings setup (memory_at first threads (turns_of steps)) (own_copy (deeds_by p steps)) (Label.Take lock mode version) cells
         go None e = absurd (true≢false (sym (rw (wanted.0, e) at own.is_ready)))
@@ -168,7 +166,7 @@ module _ {S : Type 0} (setup : Setup) (first : ℕ → S) (threads : Semantics S
   unit_reaches (Act.Step p) lt = step_reaches p.0 lt (own_turn setup threads p.0 (t.processors p.0)) refl
   unit_reaches (Act.Deliver p q) within =
       let after : IsDelivered setup first threads (turns_of steps) (next_told setup threads t (Act.Deliver p q)) =
-          delivery_reaches setup first threads (turns_of steps) t reached.is_routed reached.sound p.0 q.0 (t.under_way p.0 q.0) refl in
+      delivery_reaches setup first threads (turns_of steps) t reached.is_routed reached.sound p.0 q.0 (t.under_way p.0 q.0) refl in
       record { is_run = reached.is_run; is_adequate = reached.is_adequate; is_routed = after.is_routed; sound = after.sound }
 
 -- Traces.
@@ -196,16 +194,16 @@ module _ {S : Type 0} (setup : Setup) (first : ℕ → S) (threads : Semantics S
   trace_reached [] trace within fits = rw fits start_reached
   trace_reached (act ∷ units) trace within (before, fits, is) =
       let now : IsReached setup first threads (next_steps setup threads (told_by setup first threads before) act (steps_of before)) (next_told setup threads (told_by setup first threads before) act) =
-          unit_reaches setup first threads locked (steps_of before) (told_by setup first threads before) (trace_reached units before within.1 fits)
-          (λ q. subst (λ deeds. IsLeftBy threads (first q) deeds ((told_by setup first threads before).processors q)) (sym (deeds_by_trace q before)) (trace_left setup first threads before q))
-          act within.0 in
+      unit_reaches setup first threads locked (steps_of before) (told_by setup first threads before) (trace_reached units before within.1 fits)
+      (λ q. subst (λ deeds. IsLeftBy threads (first q) deeds ((told_by setup first threads before).processors q)) (sym (deeds_by_trace q before)) (trace_left setup first threads before q))
+      act within.0 in
       rw is
-        (subst (λ t. IsReached setup first threads (steps_of (with_unit (length units + 1) (unit_records setup threads (told_by setup first threads before) act) before)) t)
-          (sym (told_by_unit setup first threads (length units + 1) act before (trace_numbered setup first threads units before fits)))
-          (subst (λ steps. IsReached setup first threads steps (next_told setup threads (told_by setup first threads before) act))
-            (sym (steps_with setup first threads (length units + 1) (unit_records setup threads (told_by setup first threads before) act) before
-              ∙ steps_of_records setup first threads (told_by setup first threads before) act (steps_of before)))
-            now))
+      (subst (λ t. IsReached setup first threads (steps_of (with_unit (length units + 1) (unit_records setup threads (told_by setup first threads before) act) before)) t)
+      (sym (told_by_unit setup first threads (length units + 1) act before (trace_numbered setup first threads units before fits)))
+      (subst (λ steps. IsReached setup first threads steps (next_told setup threads (told_by setup first threads before) act))
+      (sym (steps_with setup first threads (length units + 1) (unit_records setup threads (told_by setup first threads before) act) before
+      ∙ steps_of_records setup first threads (told_by setup first threads before) act (steps_of before)))
+      now))
 
   one_memory_of : (units : List Act) (trace : List Group) → AllByRecursion (IsWithin setup) units → FitsUnits setup first threads units trace → IsOneMemory setup first threads trace
   one_memory_of units trace within fits =
@@ -215,7 +213,7 @@ module _ {S : Type 0} (setup : Setup) (first : ℕ → S) (threads : Semantics S
         agrees = λ p lt.
             subst (λ run. AgreesWith setup first threads run p (deed_labels (deeds_of p trace)) (own_copy (deeds_of p trace))) (turns_of_trace trace)
             (subst (λ deeds. AgreesWith setup first threads (turns_of (steps_of trace)) p (deed_labels deeds) (own_copy deeds)) (deeds_by_trace p trace)
-              (agrees_with setup first threads (all_ask setup first threads locked) locked.binds (steps_of trace) reached.is_run reached.is_adequate p));
+            (agrees_with setup first threads (all_ask setup first threads locked) locked.binds (steps_of trace) reached.is_run reached.is_adequate p));
       }
 
 -- The cells of a setup.

@@ -1,14 +1,14 @@
 -- A turn of a processor keeps the rights of a lock sound.
-use Rattle.std.specs.Prelude.{◌≡◌, ◌≢◌, ℕ, ◌+◌, ◌==◌, Bool, true, false, if◌then◌else◌, List, [], ◌∷◌, ◌++◌, Option, Some, None}
-use Rattle.std.proofs.Common.{arith, refl, sym, ap, ◌∙◌, subst, true≢false}
+use Rattle.std.specs.Prelude.{◌≡◌, ℕ, ◌+◌, true, false, List, [], ◌∷◌, ◌++◌, Some, None}
+use Rattle.std.proofs.Common.{sym, ap, ◌∙◌, true≢false}
 use Rattle.dsm_base.specs.declared.names.Mode.{Mode}
 use Rattle.dsm_base.specs.Family.{update}
 use Rattle.dsm_trace.specs.declared.message.CellValue.{CellValue}
 use Rattle.dsm_trace.specs.declared.message.MailGrant.{MailGrant}
-use Rattle.dsm_trace.specs.Locks.{are_shared, is_compatible}
+use Rattle.dsm_laws_locks.proofs.Members.{one_changed, turned_false}
 use Rattle.dsm_laws_locks.proofs.Holders.{modes_of, beside_each, both_shared}
-use Rattle.dsm_laws_locks.proofs.Places.{Word, Asks, Gives, View, Side, side_of, Saved, Place, Out, Asked, Mailed, Holding, Left, Leaving, side_at, IsCurrent, Makes, Brings, IsSound}
-use Rattle.dsm_laws_locks.proofs.Moves.{one_changed, after_ask, with_request, stands, asks_moved, is_out, is_holding, IsMailed, is_mailed, brings_kept, brings_nothing, asks_brought}
+use Rattle.dsm_laws_locks.proofs.Places.{Asks, View, Side, side_of, Saved, Place, Out, Asked, Holding, Left, side_at, IsCurrent, Brings, IsSound}
+use Rattle.dsm_laws_locks.proofs.Moves.{after_ask, stands, asks_moved, is_out, is_holding, IsMailed, is_mailed, brings_kept, brings_nothing, asks_brought}
 
 abbrev with_ask : Mode → Side → Side
 with_ask mode x = record x { taking = Some mode; in_hand = true }
@@ -18,9 +18,6 @@ with_hold mode x = record x { mail = []; held = Some mode; taking = None }
 
 abbrev without_hold : Side → Side
 without_hold x = record x { held = None; in_hand = true }
-
-other : (a b : ℕ) → (b == a) ≡ false → (a == b) ≡ false
-other a b e = grind arith
 
 module _ {IsVersion Later : ℕ → List CellValue → Type 0} (later : (version : ℕ) (cells : List CellValue) → IsVersion version cells → Later version cells)
     (newest lock : ℕ) (v : View) (places : ℕ → Place) (sound : IsSound IsVersion newest lock v places) (p : ℕ) where
@@ -118,7 +115,7 @@ module _ {IsVersion Later : ℕ → List CellValue → Type 0} (later : (version
         brings = one_changed p
             (λ here. rw here now)
             (λ q there. rw there (brings_nothing lock q (v.turns q) (side_of v q) (IsCurrent Later next) (places q) (sound.sides q)
-              (λ mode modes e. true≢false (sym (both_shared p q v.desk.holders Mode.Excl mode [] modes sound.compatible (other p q there) mine e)))));
+            (λ mode modes e. true≢false (sym (both_shared p q v.desk.holders Mode.Excl mode [] modes sound.compatible (turned_false p q there) mine e)))));
         compatible = sound.compatible;
         is_version = later v.desk.version v.desk.cells sound.is_version;
         is_newest = λ shared. absurd (true≢false (sym (beside_each p v.desk.holders Mode.Shared Mode.Excl [] shared mine)));

@@ -1,14 +1,12 @@
 -- What is seen of a lock in what a trace tells, and what messages and grants change of it.
-use Rattle.std.specs.Prelude.{◌≡◌, ◌≢◌, ℕ, ◌+◌, ◌==◌, Bool, true, false, not, ◌&&◌, if◌then◌else◌, List, [], ◌∷◌, ◌++◌, map, filter, Option, Some, None}
+use Rattle.std.specs.Prelude.{◌≡◌, ℕ, ◌+◌, ◌==◌, false, not, ◌&&◌, if◌then◌else◌, List, [], ◌∷◌, ◌++◌, map, filter}
 use Rattle.std.specs.List.{AllByRecursion}
-use Rattle.std.proofs.Common.{arith, refl, sym, ap, ap₂, ◌∙◌, subst, inl, inr, append-nil, append_assoc, true≢false}
+use Rattle.std.proofs.Common.{arith, refl, sym, ap, ap₂, ◌∙◌, inl, inr, append-nil, append_assoc}
 use Rattle.std.proofs.lemmas.Bool.Decides.{eqb_tells}
 use Rattle.dsm_base.specs.declared.names.Lock.{Lock}
-use Rattle.dsm_base.specs.declared.names.Mode.{Mode}
 use Rattle.dsm_base.specs.declared.setup.Setup.{Setup}
-use Rattle.dsm_base.specs.Family.{update, update_at}
+use Rattle.dsm_base.specs.Family.{update}
 use Rattle.dsm_base.specs.Threads.{Semantics}
-use Rattle.dsm_trace.specs.declared.message.Body.{Body}
 use Rattle.dsm_trace.specs.declared.message.Msg.{Msg}
 use Rattle.dsm_trace.specs.declared.message.Letter.{Letter}
 use Rattle.dsm_trace.specs.declared.message.MailGrant.{MailGrant}
@@ -20,8 +18,7 @@ use Rattle.dsm_trace.specs.Effects.{granted, grant_message, own_grant, is_of, lo
 use Rattle.dsm_trace.specs.Told.{Told, with_message}
 use Rattle.dsm_trace.proofs.Units.{sent_all}
 use Rattle.dsm_laws_locks.proofs.Holders.{waits_of}
-use Rattle.dsm_laws_locks.proofs.Places.{Word, Grants, word_of, words_of, mail_of, taking_of, View}
-use Rattle.dsm_laws_locks.proofs.Moves.{one_changed}
+use Rattle.dsm_laws_locks.proofs.Places.{Word, word_of, words_of, mail_of, taking_of, View}
 use Rattle.dsm_laws_locks.proofs.Desks.{grant_word, with_grants}
 
 abbrev pub view_of : {S : Type 0} → Setup → Semantics S → Told S → ℕ → View
@@ -65,8 +62,8 @@ pub words_append : (lock : ℕ) (xs ys : List Letter) → words_of lock (xs ++ y
 words_append lock [] ys = refl
 words_append lock (x ∷ xs) ys =
     elim (eqb_tells (lock_in x.msg.body).0 lock) [
-      inl (t, _) ↦ rw t (ap (λ ws. word_of x.msg.carry.turn x.msg.body ∷ ws) (words_append lock xs ys))
-    | inr (t, _) ↦ rw t (words_append lock xs ys)
+      | inl (t, _) ↦ rw t (ap (λ ws. word_of x.msg.carry.turn x.msg.body ∷ ws) (words_append lock xs ys))
+      | inr (t, _) ↦ rw t (words_append lock xs ys)
     ]
 
 -- what messages from one to another say of a lock
@@ -77,16 +74,6 @@ words_between lock a b (msg ∷ msgs) =
     then word_of msg.carry.turn msg.body ∷ words_between lock a b msgs
     else words_between lock a b msgs
 
-pub update_at_seen : {A : Type 0} (f : ℕ → ℕ → A) (k l : ℕ) (v : A) (i j : ℕ) → update_at f k l v i j ≡ (if (i == k) && (j == l) then v else f i j)
-update_at_seen f k l v i j =
-    elim (eqb_tells i k) [
-      inl (s, e) ↦ elim (eqb_tells j l) [
-          inl (t, _) ↦ rw (s, t) refl
-        | inr (t, _) ↦ rw (s, t) (ap (λ x. f x j) (sym e))
-        ]
-    | inr (s, _) ↦ rw s refl
-    ]
-
 between_cons : (lock a b : ℕ) (msg : Msg) (msgs : List Msg) → words_between lock a b (msg ∷ msgs) ≡ words_between lock a b (msg ∷ []) ++ words_between lock a b msgs
 between_cons lock a b msg msgs = grind arith
 
@@ -95,13 +82,13 @@ module _ {S : Type 0} where
       words_of lock ((with_message t number msg).under_way a b) ≡ words_of lock (t.under_way a b) ++ words_between lock a b (msg ∷ [])
   word_sent lock t number msg a b =
       elim (eqb_tells a msg.from.0) [
-        inl (s, e) ↦ elim (eqb_tells b msg.to.0) [
-            inl (u, d) ↦ rw (s, u) (
+        | inl (s, e) ↦ elim (eqb_tells b msg.to.0) [
+          | inl (u, d) ↦ rw (s, u) (
               words_append lock (t.under_way msg.from.0 msg.to.0) (record { number = number; msg = msg } ∷ [])
               ∙ ap₂ (λ x y. words_of lock (t.under_way x y) ++ words_of lock (record { number = number; msg = msg } ∷ [])) (sym e) (sym d))
           | inr (u, _) ↦ rw (s, u) (ap (λ x. words_of lock (t.under_way x b)) (sym e) ∙ sym (append-nil (words_of lock (t.under_way a b))))
-          ]
-      | inr (s, _) ↦ rw s (sym (append-nil (words_of lock (t.under_way a b))))
+        ]
+        | inr (s, _) ↦ rw s (sym (append-nil (words_of lock (t.under_way a b))))
       ]
 
   words_sent : (lock : ℕ) (t : Told S) (msgs : List Msg) (a b : ℕ) →
@@ -203,18 +190,18 @@ module _ {S : Type 0} (setup : Setup) (threads : Semantics S) (t : Told S) (me :
   granting_other l ne =
       sent_view setup threads l (with_processor t me (granted me s lock state ws).processor) (granted me s lock state ws).sends
       ∙ no_words_view setup l (granted me s lock state ws).sends (view_of setup threads (with_processor t me (granted me s lock state ws).processor) l)
-        (grants_of_others l me s.turns lock state (filter (λ one. not (is_of me one)) ws) ne)
+      (grants_of_others l me s.turns lock state (filter (λ one. not (is_of me one)) ws) ne)
       ∙ same_view _ _ record {
-          asks = λ q. refl;
-          grants = λ q. refl;
-          mail = λ q. seen_same (λ r. mail_of l r.mail) t.processors me (granted me s lock state ws).processor s
-              (mail_append l s.mail (map (own_grant lock state) (filter (is_of me) ws)) ∙ rw (other_mail l lock state (filter (is_of me) ws) ne) (append-nil (mail_of l s.mail))) q;
-          held = λ q. seen_same (λ r. r.held l) t.processors me (granted me s lock state ws).processor s refl q;
-          taking = λ q. seen_same (λ r. taking_of l (threads.want r.thread)) t.processors me (granted me s lock state ws).processor s refl q;
-          turns = λ q. seen_same (λ r. r.turns) t.processors me (granted me s lock state ws).processor s refl q;
-          in_hand = λ q. refl;
-          desk = seen_same (λ r. r.locks l) t.processors me (granted me s lock state ws).processor s (other_lock l ne) (home_of setup l);
-        }
+        asks = λ q. refl;
+        grants = λ q. refl;
+        mail = λ q. seen_same (λ r. mail_of l r.mail) t.processors me (granted me s lock state ws).processor s
+            (mail_append l s.mail (map (own_grant lock state) (filter (is_of me) ws)) ∙ rw (other_mail l lock state (filter (is_of me) ws) ne) (append-nil (mail_of l s.mail))) q;
+        held = λ q. seen_same (λ r. r.held l) t.processors me (granted me s lock state ws).processor s refl q;
+        taking = λ q. seen_same (λ r. taking_of l (threads.want r.thread)) t.processors me (granted me s lock state ws).processor s refl q;
+        turns = λ q. seen_same (λ r. r.turns) t.processors me (granted me s lock state ws).processor s refl q;
+        in_hand = λ q. refl;
+        desk = seen_same (λ r. r.locks l) t.processors me (granted me s lock state ws).processor s (other_lock l ne) (home_of setup l);
+      }
     where
       other_lock : (l : ℕ) → (lock.0 == l) ≡ false → update s.locks lock.0 state l ≡ s.locks l
       other_lock l ne = grind arith
@@ -223,21 +210,21 @@ module _ {S : Type 0} (setup : Setup) (threads : Semantics S) (t : Told S) (me :
   granting_view home =
       sent_view setup threads lock.0 (with_processor t me (granted me s lock state ws).processor) (granted me s lock state ws).sends
       ∙ same_view _ _ record {
-          asks = λ q. rw home (rw (grants_home me s.turns lock state ws q) (append-nil (words_of lock.0 (t.under_way q me))));
-          grants = λ q. elim (eqb_tells q me) [
-              inl (e, i) ↦ rw (home, e, i) (rw (grants_home me s.turns lock state ws me) (append-nil (words_of lock.0 (t.under_way me me))))
-            | inr (e, _) ↦ rw (home, e) (ap (λ words. words_of lock.0 (t.under_way me q) ++ words) (grants_from me s.turns lock state ws q e))
-            ];
-          mail = λ q. elim (eqb_tells q me) [
-              inl (e, i) ↦ rw (e, i) (mail_append lock.0 s.mail (map (own_grant lock state) (filter (is_of me) ws)) ∙ ap (λ xs. mail_of lock.0 s.mail ++ xs) (own_mail lock state (filter (is_of me) ws)))
-            | inr (e, _) ↦ rw e refl
-            ];
-          held = λ q. seen_same (λ r. r.held lock.0) t.processors me (granted me s lock state ws).processor s refl q;
-          taking = λ q. seen_same (λ r. taking_of lock.0 (threads.want r.thread)) t.processors me (granted me s lock state ws).processor s refl q;
-          turns = λ q. seen_same (λ r. r.turns) t.processors me (granted me s lock state ws).processor s refl q;
-          in_hand = λ q. refl;
-          desk = rw home here;
-        }
+        asks = λ q. rw home (rw (grants_home me s.turns lock state ws q) (append-nil (words_of lock.0 (t.under_way q me))));
+        grants = λ q. elim (eqb_tells q me) [
+          | inl (e, i) ↦ rw (home, e, i) (rw (grants_home me s.turns lock state ws me) (append-nil (words_of lock.0 (t.under_way me me))))
+          | inr (e, _) ↦ rw (home, e) (ap (λ words. words_of lock.0 (t.under_way me q) ++ words) (grants_from me s.turns lock state ws q e))
+        ];
+        mail = λ q. elim (eqb_tells q me) [
+          | inl (e, i) ↦ rw (e, i) (mail_append lock.0 s.mail (map (own_grant lock state) (filter (is_of me) ws)) ∙ ap (λ xs. mail_of lock.0 s.mail ++ xs) (own_mail lock state (filter (is_of me) ws)))
+          | inr (e, _) ↦ rw e refl
+        ];
+        held = λ q. seen_same (λ r. r.held lock.0) t.processors me (granted me s lock state ws).processor s refl q;
+        taking = λ q. seen_same (λ r. taking_of lock.0 (threads.want r.thread)) t.processors me (granted me s lock state ws).processor s refl q;
+        turns = λ q. seen_same (λ r. r.turns) t.processors me (granted me s lock state ws).processor s refl q;
+        in_hand = λ q. refl;
+        desk = rw home here;
+      }
     where
       here : (update t.processors me (granted me s lock state ws).processor me).locks lock.0 ≡ state
       here = grind arith

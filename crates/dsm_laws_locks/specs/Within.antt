@@ -1,5 +1,5 @@
 -- Setups whose pieces lie within their cells.
-use Rattle.std.specs.Prelude.{ℕ, ◌+◌, ◌≤◌}
+use Rattle.std.specs.Prelude.{◌+◌, ◌≤◌}
 use Rattle.std.specs.List.{AllByRecursion}
 use Rattle.dsm_base.specs.declared.setup.Setup.{Setup}
 

@@ -16,5 +16,4 @@ use dsm_base::TaskMaker;
 /// agrees, where every piece is bound to a lock and made of cells of the setup.
 pub fn one_memory<M: TaskMaker>()
     ensures { (maker : M) (setup : Setup) (units : List Act) (trace : List Group) → BindsLocksOnly setup → BindsWithin setup → AllByRecursion (IsWithin setup) units → FitsUnits setup (M.first maker setup.procs) M.Made.semantics units trace → IsOneMemory setup (M.first maker setup.procs) M.Made.semantics trace }
-{
-}
+{}
