@@ -18,7 +18,7 @@ use Rattle.dsm_trace.specs.Told.{Told}
 use Rattle.dsm_laws_locks.proofs.Members.{back_same}
 use Rattle.dsm_laws_locks.proofs.Places.{Word, words_of, mail_of, taking_of, View}
 use Rattle.dsm_laws_locks.proofs.Wants.{asked_in}
-use Rattle.dsm_laws_locks.proofs.Views.{view_of, same_view, with_processor}
+use Rattle.dsm_laws_locks.proofs.Views.{same_words, same_own, view_of, same_view, with_processor}
 
 -- what is seen of a family with one new member
 pub seen_pushed : {S A : Type 0} (f : Processor S → A) (processors : ℕ → Processor S) (p : ℕ) (s : Processor S) (a : A) → f s ≡ a → (q : ℕ) → f (update processors p s q) ≡ update (λ x. f (processors x)) p a q
@@ -46,16 +46,7 @@ module _ {S : Type 0} (setup : Setup) (threads : Semantics S) (t : Told S) (p : 
 -- where a turn changes nothing of the lock it is one more turn
 pub stayed_view : (p : ℕ) (mail : List MailGrant) (held taking : Option Mode) (v : View) → mail ≡ v.mail p → held ≡ v.held p → taking ≡ v.taking p →
     turned_view p mail held taking v ≡ record v { turns = update v.turns p (v.turns p + 1) }
-stayed_view p mail held taking v m h k = same_view _ _ record {
-  asks = λ q. refl;
-  grants = λ q. refl;
-  mail = back_same v.mail p mail m;
-  held = back_same v.held p held h;
-  taking = back_same v.taking p taking k;
-  turns = λ q. refl;
-  in_hand = λ q. refl;
-  desk = refl;
-}
+stayed_view p mail held taking v m h k = same_own (record v { turns = update v.turns p (v.turns p + 1) }) _ _ _ _ _ _ _ _ (back_same v.mail p mail m) (back_same v.held p held h) (back_same v.taking p taking k) (λ q. refl)
 
 -- The mailbox after a take.
 
@@ -134,16 +125,7 @@ module _ {S : Type 0} (setup : Setup) (threads : Semantics S) (t : Told S) (a b 
 
   -- the letter says nothing of another lock
   pub pop_other : (lock : ℕ) → ((lock_in letter.msg.body).0 == lock) ≡ false → view_of setup threads (with_processor popped b (t.processors b)) lock ≡ view_of setup threads t lock
-  pop_other lock ne = pop_view lock ∙ same_view _ _ record {
-    asks = λ q. same q (home_of setup lock);
-    grants = λ q. same (home_of setup lock) q;
-    mail = λ q. refl;
-    held = λ q. refl;
-    taking = λ q. refl;
-    turns = λ q. refl;
-    in_hand = λ q. refl;
-    desk = refl;
-  }
+  pop_other lock ne = pop_view lock ∙ same_words (view_of setup threads t lock) _ _ _ _ (λ q. same q (home_of setup lock)) (λ q. same (home_of setup lock) q)
     where
       left : words_of lock others ≡ words_of lock (t.under_way a b)
       left = rw oldest (rw ne refl)

@@ -21,48 +21,21 @@ use Rattle.dsm_trace.proofs.Units.{next_by_delivery}
 use Rattle.dsm_laws_locks.proofs.Members.{same_number, if_same, apart_false, at_locks, back_same, back_false}
 use Rattle.dsm_laws_locks.proofs.Places.{Word, Asks, Gives, Grants, words_of, mail_of, taking_of, Asked, Left, View}
 use Rattle.dsm_laws_locks.proofs.Desks.{CameBack, next_waiting, with_grants, request_came, request_turn, release_came, grant_came, ask_handled, give_handled}
-use Rattle.dsm_laws_locks.proofs.Views.{view_of, same_view, with_processor, seen_same, granting_view, granting_other, mail_append}
+use Rattle.dsm_laws_locks.proofs.Views.{same_words, same_own, view_of, same_view, with_processor, seen_same, granting_view, granting_other, mail_append}
 use Rattle.dsm_laws_locks.proofs.Changes.{popped_view, pop_view, pop_other, popped}
 use Rattle.dsm_laws_locks.proofs.Routes.{IsRoute, IsRouted, sent_routed, processors_routed, taken_routed, grants_routed}
 use Rattle.dsm_laws_locks.proofs.Reached.{AreSound, same_sound}
 
 -- a word for the home is taken out
 pop_asks : (setup : Setup) (lock a b : ℕ) (rest : List Word) (v : View) → home_of setup lock ≡ b → a ≢ b → popped_view setup lock a b rest v ≡ record v { asks = update v.asks a rest }
-pop_asks setup lock a b rest v home n = same_view _ _ record {
-  asks = λ q. rw (home, same_number b) (elim (eqb_tells q a) [ inl (e, _) ↦ rw e refl | inr (e, _) ↦ rw e refl ]);
-  grants = λ q. rw (home, apart_false a b n) refl;
-  mail = λ q. refl;
-  held = λ q. refl;
-  taking = λ q. refl;
-  turns = λ q. refl;
-  in_hand = λ q. refl;
-  desk = refl;
-}
+pop_asks setup lock a b rest v home n = same_words (v) _ _ _ _ (λ q. rw (home, same_number b) (elim (eqb_tells q a) [ inl (e, _) ↦ rw e refl | inr (e, _) ↦ rw e refl ])) (λ q. rw (home, apart_false a b n) refl)
 
 -- a word from the home is taken out
 pop_grants : (setup : Setup) (lock a b : ℕ) (rest : List Word) (v : View) → home_of setup lock ≡ a → a ≢ b → popped_view setup lock a b rest v ≡ record v { grants = update v.grants b rest }
-pop_grants setup lock a b rest v home n = same_view _ _ record {
-  asks = λ q. rw home (elim (eqb_tells q a) [ inl (e, _) ↦ rw (e, apart_false b a (λ i. n (sym i))) refl | inr (e, _) ↦ rw e refl ]);
-  grants = λ q. rw (home, same_number a) refl;
-  mail = λ q. refl;
-  held = λ q. refl;
-  taking = λ q. refl;
-  turns = λ q. refl;
-  in_hand = λ q. refl;
-  desk = refl;
-}
+pop_grants setup lock a b rest v home n = same_words (v) _ _ _ _ (λ q. rw home (elim (eqb_tells q a) [ inl (e, _) ↦ rw (e, apart_false b a (λ i. n (sym i))) refl | inr (e, _) ↦ rw e refl ])) (λ q. rw (home, same_number a) refl)
 
 hand_view : (q : ℕ) (v : View) → ((x : ℕ) → v.in_hand x ≡ false) → v ≡ record v { in_hand = update (update v.in_hand q true) q false }
-hand_view q v none = same_view _ _ record {
-  asks = λ x. refl;
-  grants = λ x. refl;
-  mail = λ x. refl;
-  held = λ x. refl;
-  taking = λ x. refl;
-  turns = λ x. refl;
-  in_hand = back_false q v.in_hand none;
-  desk = refl;
-}
+hand_view q v none = same_own (v) _ _ _ _ _ _ _ _ (λ x. refl) (λ x. refl) (λ x. refl) (back_false q v.in_hand none)
 
 abbrev with_mail : ℕ → List MailGrant → View → View
 with_mail b mail v = record v { mail = update v.mail b mail }
@@ -176,16 +149,7 @@ module _ {S : Type 0} (setup : Setup) (first : ℕ → S) (threads : Semantics S
         (λ l ne. same_sound
         (sym (mail_view setup threads (popped setup threads t a b letter others oldest) b l s (s.mail ++ grant ∷ [])
         ∙ ap (with_mail b (mail_of l (s.mail ++ grant ∷ []))) (pop_other setup threads t a b letter others oldest l (rw e ne))
-        ∙ same_view _ _ record {
-          asks = λ q. refl;
-          grants = λ q. refl;
-          mail = back_same (view_of setup threads t l).mail b (mail_of l (s.mail ++ grant ∷ [])) (mail_append l s.mail (grant ∷ []) ∙ rw ne (append-nil (mail_of l s.mail)));
-          held = λ q. refl;
-          taking = λ q. refl;
-          turns = λ q. refl;
-          in_hand = λ q. refl;
-          desk = refl;
-        }))
+        ∙ same_own (view_of setup threads t l) _ _ _ _ _ _ _ _ (back_same (view_of setup threads t l).mail b (mail_of l (s.mail ++ grant ∷ [])) (mail_append l s.mail (grant ∷ []) ∙ rw ne (append-nil (mail_of l s.mail)))) (λ q. refl) (λ q. refl) (λ q. refl)))
         (sound l));
   })
     where

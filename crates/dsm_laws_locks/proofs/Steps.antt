@@ -27,7 +27,7 @@ use Rattle.dsm_laws_locks.proofs.Places.{word_of, Asked, Left, View, side_of, Sa
 use Rattle.dsm_laws_locks.proofs.Moves.{IsMailed, is_mailed}
 use Rattle.dsm_laws_locks.proofs.Turns.{ask_sent, ask_kept, took, gave_shared, gave_exclusive}
 use Rattle.dsm_laws_locks.proofs.Desks.{Sound, next_waiting, with_grants, ask_handled, give_handled, release_sent}
-use Rattle.dsm_laws_locks.proofs.Views.{view_of, same_view, with_processor, granting_view, granting_other, with_words, sent_view, no_words_view}
+use Rattle.dsm_laws_locks.proofs.Views.{same_words, same_own, view_of, with_processor, granting_view, granting_other, with_words, sent_view, no_words_view}
 use Rattle.dsm_laws_locks.proofs.Changes.{turned_view, turn_view, mail_filter}
 use Rattle.dsm_laws_locks.proofs.Routes.{IsRouted, none_to_self, sent_routed, processors_routed, grants_routed}
 use Rattle.dsm_laws_locks.proofs.Wants.{ask_free, give_held, take_wanted}
@@ -41,19 +41,10 @@ use Rattle.dsm_laws_locks.proofs.Reached.{AreSound, IsReached, IsLocked, all_ask
 -- a message to the lock's home
 to_home_view : (setup : Setup) (lock p turn : ℕ) (body : Body) (v : View) → (lock_in body).0 ≡ lock → (home_of setup lock == p) ≡ false →
     with_words setup lock (message p (home_of setup lock) turn body ∷ []) v ≡ record v { asks = update v.asks p (v.asks p ++ word_of turn body ∷ []) }
-to_home_view setup lock p turn body v same apart = same_view _ _ record {
-  asks = λ q. elim (eqb_tells q p) [
-    | inl (e, i) ↦ rw (e, same, same_number (home_of setup lock), same_number lock) (ap (λ x. v.asks x ++ word_of turn body ∷ []) i)
-    | inr (e, _) ↦ rw e (append-nil (v.asks q))
-  ];
-  grants = λ q. rw apart (append-nil (v.grants q));
-  mail = λ q. refl;
-  held = λ q. refl;
-  taking = λ q. refl;
-  turns = λ q. refl;
-  in_hand = λ q. refl;
-  desk = refl;
-}
+to_home_view setup lock p turn body v same apart = same_words (v) _ _ _ _ (λ q. elim (eqb_tells q p) [
+  | inl (e, i) ↦ rw (e, same, same_number (home_of setup lock), same_number lock) (ap (λ x. v.asks x ++ word_of turn body ∷ []) i)
+  | inr (e, _) ↦ rw e (append-nil (v.asks q))
+]) (λ q. rw apart (append-nil (v.grants q)))
 
 -- a view in which p has asked, and its request is in hand
 abbrev asking_view : ℕ → Mode → View → View
@@ -65,29 +56,11 @@ giving_view p v = record v { held = update v.held p None; turns = update v.turns
 
 ask_view : (p : ℕ) (mode : Mode) (v : View) → ((q : ℕ) → v.in_hand q ≡ false) →
     turned_view p (v.mail p) (v.held p) (Some mode) v ≡ record (asking_view p mode v) { in_hand = update (asking_view p mode v).in_hand p false }
-ask_view p mode v none = same_view _ _ record {
-  asks = λ q. refl;
-  grants = λ q. refl;
-  mail = back_same v.mail p (v.mail p) refl;
-  held = back_same v.held p (v.held p) refl;
-  taking = λ q. refl;
-  turns = λ q. refl;
-  in_hand = back_false p v.in_hand none;
-  desk = refl;
-}
+ask_view p mode v none = same_own (record v { taking = update v.taking p (Some mode); turns = update v.turns p (v.turns p + 1) }) _ _ _ _ _ _ _ _ (back_same v.mail p (v.mail p) refl) (back_same v.held p (v.held p) refl) (λ q. refl) (back_false p v.in_hand none)
 
 give_view : (p : ℕ) (v : View) → ((q : ℕ) → v.in_hand q ≡ false) → v.taking p ≡ None →
     turned_view p (v.mail p) None None v ≡ record (giving_view p v) { in_hand = update (giving_view p v).in_hand p false }
-give_view p v none t = same_view _ _ record {
-  asks = λ q. refl;
-  grants = λ q. refl;
-  mail = back_same v.mail p (v.mail p) refl;
-  held = λ q. refl;
-  taking = back_same v.taking p None (sym t);
-  turns = λ q. refl;
-  in_hand = back_false p v.in_hand none;
-  desk = refl;
-}
+give_view p v none t = same_own (record v { held = update v.held p None; turns = update v.turns p (v.turns p + 1) }) _ _ _ _ _ _ _ _ (back_same v.mail p (v.mail p) refl) (λ q. refl) (back_same v.taking p None (sym t)) (back_false p v.in_hand none)
 
 module _ {S : Type 0} (setup : Setup) (first : ℕ → S) (threads : Semantics S) (locked : IsLocked setup first threads) (steps : List Step) (t : Told S) (reached : IsReached setup first threads steps t)
     (left : (q : ℕ) → IsLeftBy threads (first q) (deeds_by q steps) (t.processors q)) (p : ℕ) (lt : p < setup.procs) where
@@ -150,16 +123,7 @@ module _ {S : Type 0} (setup : Setup) (first : ℕ → S) (threads : Semantics S
     })
       where
         still_ask : turned_view p (v_ask.mail p) (v_ask.held p) (Some mode) v_ask ≡ record v_ask { taking = update v_ask.taking p (Some mode); turns = update v_ask.turns p (v_ask.turns p + 1) }
-        still_ask = same_view _ _ record {
-          asks = λ q. refl;
-          grants = λ q. refl;
-          mail = back_same v_ask.mail p (v_ask.mail p) refl;
-          held = back_same v_ask.held p (v_ask.held p) refl;
-          taking = λ q. refl;
-          turns = λ q. refl;
-          in_hand = λ q. refl;
-          desk = refl;
-        }
+        still_ask = same_own (record v_ask { taking = update v_ask.taking p (Some mode); turns = update v_ask.turns p (v_ask.turns p + 1) }) _ _ _ _ _ _ _ _ (back_same v_ask.mail p (v_ask.mail p) refl) (back_same v_ask.held p (v_ask.held p) refl) (λ q. refl) (λ q. refl)
 
     -- the request is handled at home
     ask_home : (home_of setup lock.0 == p) ≡ true → home_of setup lock.0 ≡ p → IsTurned (Label.Ask lock mode) (next_by_step setup threads t p (Some record { label = Label.Ask lock mode; cells = cells }))

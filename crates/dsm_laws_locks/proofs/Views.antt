@@ -1,9 +1,10 @@
 -- What is seen of a lock in what a trace tells, and what messages and grants change of it.
 use Rattle.std.specs.Prelude.{◌≡◌, ℕ, ◌+◌, ◌==◌, false, not, ◌&&◌, if◌then◌else◌, List, [], ◌∷◌, ◌++◌, map, filter}
 use Rattle.std.specs.List.{AllByRecursion}
-use Rattle.std.proofs.Common.{arith, refl, sym, ap, ap₂, ◌∙◌, inl, inr, append-nil, append_assoc}
+use Rattle.std.proofs.Common.{Bool, Option, arith, refl, sym, ap, ap₂, ◌∙◌, inl, inr, append-nil, append_assoc}
 use Rattle.std.proofs.lemmas.Bool.Decides.{eqb_tells}
 use Rattle.dsm_base.specs.declared.names.Lock.{Lock}
+use Rattle.dsm_base.specs.declared.names.Mode.{Mode}
 use Rattle.dsm_base.specs.declared.setup.Setup.{Setup}
 use Rattle.dsm_base.specs.Family.{update}
 use Rattle.dsm_base.specs.Threads.{Semantics}
@@ -55,6 +56,17 @@ same_view v w same = λ i. record {
   in_hand = λ q. same.in_hand q i;
   desk = same.desk i;
 }
+
+-- other words under way that say the same
+pub same_words : (v : View) (asks more grants others : ℕ → List Word) → ((q : ℕ) → asks q ≡ more q) → ((q : ℕ) → grants q ≡ others q) →
+    record v { asks = asks; grants = grants } ≡ record v { asks = more; grants = others }
+same_words v asks more grants others f g = λ i. record v { asks = λ q. f q i; grants = λ q. g q i }
+
+-- own parts that are the same
+pub same_own : (v : View) (mail more : ℕ → List MailGrant) (held hold taking take : ℕ → Option Mode) (in_hand hand : ℕ → Bool) → ((q : ℕ) → mail q ≡ more q) → ((q : ℕ) → held q ≡ hold q) →
+    ((q : ℕ) → taking q ≡ take q) → ((q : ℕ) → in_hand q ≡ hand q) →
+    record v { mail = mail; held = held; taking = taking; in_hand = in_hand } ≡ record v { mail = more; held = hold; taking = take; in_hand = hand }
+same_own v mail more held hold taking take in_hand hand f g h k = λ i. record v { mail = λ q. f q i; held = λ q. g q i; taking = λ q. h q i; in_hand = λ q. k q i }
 
 -- Messages.
 
@@ -133,16 +145,7 @@ no_words lock a b [] h = refl
 no_words lock a b (msg ∷ msgs) h = grind (arith, h.0, no_words lock a b msgs h.1)
 
 pub no_words_view : (setup : Setup) (lock : ℕ) (msgs : List Msg) (v : View) → AreOfOthers lock msgs → with_words setup lock msgs v ≡ v
-no_words_view setup lock msgs v h = same_view _ _ record {
-  asks = λ q. ap (λ ws. v.asks q ++ ws) (no_words lock q (home_of setup lock) msgs h) ∙ append-nil (v.asks q);
-  grants = λ q. ap (λ ws. v.grants q ++ ws) (no_words lock (home_of setup lock) q msgs h) ∙ append-nil (v.grants q);
-  mail = λ q. refl;
-  held = λ q. refl;
-  taking = λ q. refl;
-  turns = λ q. refl;
-  in_hand = λ q. refl;
-  desk = refl;
-}
+no_words_view setup lock msgs v h = same_words (v) _ _ _ _ (λ q. ap (λ ws. v.asks q ++ ws) (no_words lock q (home_of setup lock) msgs h) ∙ append-nil (v.asks q)) (λ q. ap (λ ws. v.grants q ++ ws) (no_words lock (home_of setup lock) q msgs h) ∙ append-nil (v.grants q))
 
 -- Grants.
 
