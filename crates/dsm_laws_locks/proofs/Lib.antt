@@ -16,3 +16,4 @@ pub mod Reached
 pub mod Steps
 pub mod Deliveries
 pub mod Traces
+pub mod Example
