@@ -1,0 +1,13 @@
+-- What a write to a list does to its family.
+use Rattle.std.proofs.Common.{◌≡◌, ◌<◌, ℕ, List, length, get_or, set, inl, inr, ap, ◌∙◌, get_or-set_same, get_or-set_other}
+use Rattle.std.proofs.lemmas.Bool.Decides.{eqb_tells}
+use Rattle.dsm_base.specs.Family.{update}
+use Rattle.dsm_node.specs.Families.{family_of}
+
+-- one item replaced is one member replaced
+pub family_of_set : {A : Type 0} (default : ℕ → A) (items : List A) (k : ℕ) (item : A) → k < length items → family_of default (set items k item) ≡ update (family_of default items) k item
+family_of_set default items k item within i j =
+    elim (eqb_tells j k) as (λ _. family_of default (set items k item) j ≡ update (family_of default items) k item j) [
+      | inl (same, is) ↦ rw same (ap (λ n. get_or (set items k item) n (default j)) is ∙ get_or-set_same items k item (default j) within)
+      | inr (other, differs) ↦ rw other (get_or-set_other items k j item (default j) differs)
+    ] i

@@ -1,0 +1,5 @@
+pub mod Families
+pub mod Copy
+pub mod Holds
+pub mod Barriers
+pub mod Mailbox

@@ -1,0 +1,8 @@
+//! One processor: its thread, its own copy of the cells, its mailbox, and the locks that it is home of.
+#![tactic(auto)]
+
+mod barriers;
+mod copy;
+mod holds;
+mod lock;
+mod mailbox;
