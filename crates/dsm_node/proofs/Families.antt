@@ -1,5 +1,5 @@
 -- What a write to a list does to its family.
-use Rattle.std.proofs.Common.{◌≡◌, ◌<◌, ℕ, List, length, get_or, set, inl, inr, ap, ◌∙◌, get_or-set_same, get_or-set_other}
+use Rattle.std.proofs.Common.{◌≡◌, ◌<◌, ℕ, zero, suc, List, [], ◌∷◌, ◌++◌, refl, length, get_or, set, inl, inr, ap, ◌∙◌, get_or-set_same, get_or-set_other}
 use Rattle.std.proofs.lemmas.Bool.Decides.{eqb_tells}
 use Rattle.dsm_base.specs.Family.{update}
 use Rattle.dsm_node.specs.Families.{family_of}
@@ -11,3 +11,10 @@ family_of_set default items k item within i j =
       | inl (same, is) ↦ rw same (ap (λ n. get_or (set items k item) n (default j)) is ∙ get_or-set_same items k item (default j) within)
       | inr (other, differs) ↦ rw other (get_or-set_other items k j item (default j) differs)
     ] i
+
+-- a family of defaults, one item on
+pub family_of_push : {A : Type 0} (default : ℕ → A) (items : List A) (item : A) → item ≡ default (length items) → ((i : ℕ) → family_of default items i ≡ default i) → (i : ℕ) → family_of default (items ++ item ∷ []) i ≡ default i
+family_of_push default [] item is before zero = is
+family_of_push default [] item is before (suc i) = refl
+family_of_push default (first ∷ items) item is before zero = before zero
+family_of_push default (first ∷ items) item is before (suc i) = family_of_push (λ k. default (suc k)) items item is (λ k. before (suc k)) i

@@ -4,5 +4,7 @@
 mod barriers;
 mod copy;
 mod holds;
+mod home;
+mod layout;
 mod lock;
 mod mailbox;
