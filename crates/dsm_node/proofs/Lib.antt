@@ -1,3 +1,5 @@
 pub mod Families
 pub mod Places
 pub mod Cells
+pub mod Names
+pub mod Granted

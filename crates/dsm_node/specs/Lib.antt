@@ -5,3 +5,5 @@ pub mod Barriers
 pub mod Mailbox
 pub mod Layout
 pub mod Home
+pub mod Names
+pub mod Node

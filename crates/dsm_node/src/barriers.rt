@@ -1,11 +1,30 @@
 //! How often the thread has come to each barrier, and crossed it.
 
-ghost use Rattle.std.specs.Prelude.{◌≡◌, ◌<◌, ℕ, length, OnOk};
+ghost use Rattle.std.specs.Prelude.{◌≡◌, ◌<◌, ℕ, length, IfOk, OnOk};
 ghost use Rattle.dsm_base.specs.Plain.{arrived_after, crossed_after};
 ghost use Rattle.dsm_node.specs.Barriers.{counts_of, PassesBarriers};
 
 use crate::holds::Numbers;
-use dsm_base::{Label, MemFault};
+use dsm_base::{Bar, Label, MemFault};
+use sqlite_items::Items;
+use std::alloc::Global;
+
+/// A zero for each lock or barrier.
+#[tactic(auto, using(crate::proofs::Families::family_of_replicate))]
+pub fn zero_counts(alloc: Global, count: usize) -> Result<Numbers, MemFault>
+    ensures zeros { IfOk result (λ counts. counts_of counts ≡ (λ i. 0)) }
+    ensures length { IfOk result (λ counts. length counts ≡ count) }
+{
+    Ok(Items::from_vec(vec![in alloc; 0; count]?))
+}
+
+/// The count of a barrier.
+#[tactic(auto, using(crate::proofs::Families::items_or_default))]
+pub fn count_at(counts: &Numbers, bar: Bar) -> u32
+    ensures { result ≡ counts_of counts.now bar.0 }
+{
+    counts.get(bar.0 as usize).copied().unwrap_or(0)
+}
 
 /// What a turn leaves of the arrivals.
 #[tactic(auto, using(crate::proofs::Families::family_of_set))]

@@ -15,6 +15,15 @@ use std::alloc::Global;
 /// The value of each cell.
 pub type Values = Items<i64>;
 
+/// A zero for each cell.
+#[tactic(auto, using(crate::proofs::Families::family_of_replicate))]
+pub fn zero_copy(alloc: Global, count: usize) -> Result<Values, MemFault>
+    ensures zeros { IfOk result (λ copy. copy_of copy ≡ (λ cell. pos 0)) }
+    ensures length { IfOk result (λ copy. length copy ≡ count) }
+{
+    Ok(Items::from_vec(vec![in alloc; 0; count]?))
+}
+
 /// Lays these values over the copy.
 #[tactic(auto, using(crate::proofs::Families::family_of_set))]
 fn overlay(copy: &mut Values, cells: &[CellValue])

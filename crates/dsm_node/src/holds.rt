@@ -1,18 +1,36 @@
 //! How the locks are held, and the versions that the own copy has.
 
-ghost use Rattle.std.specs.Prelude.{◌≡◌, ◌<◌, ℕ, None, length, OnOk};
+ghost use Rattle.std.specs.Prelude.{◌≡◌, ◌<◌, ℕ, None, length, IfOk, OnOk};
 ghost use Rattle.dsm_base.specs.Plain.{held_after};
 ghost use Rattle.dsm_trace.specs.Processor.{own_versions_after};
 ghost use Rattle.dsm_node.specs.Holds.{held_of, versions_of, TakesLocks};
 
-use dsm_base::{Label, MemFault, Mode};
+use dsm_base::{Label, Lock, MemFault, Mode};
 use sqlite_items::Items;
+use std::alloc::Global;
 
 /// The mode in which each lock is held.
 pub type Modes = Items<Option<Mode>>;
 
 /// A number for each lock or barrier.
 pub type Numbers = Items<u32>;
+
+/// No lock is held.
+#[tactic(auto, using(crate::proofs::Families::family_of_replicate))]
+pub fn nothing_held(alloc: Global, count: usize) -> Result<Modes, MemFault>
+    ensures none { IfOk result (λ held. held_of held ≡ (λ lock. None)) }
+    ensures length { IfOk result (λ held. length held ≡ count) }
+{
+    Ok(Items::from_vec(vec![in alloc; None; count]?))
+}
+
+/// The mode in which a lock is held.
+#[tactic(auto, using(crate::proofs::Families::flatten_item))]
+pub fn mode_at(held: &Modes, lock: Lock) -> Option<Mode>
+    ensures { result ≡ held_of held.now lock.0 }
+{
+    held.get(lock.0 as usize).copied().flatten()
+}
 
 /// What a turn leaves of the modes.
 #[tactic(auto, using(crate::proofs::Families::family_of_set))]

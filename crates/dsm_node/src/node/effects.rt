@@ -1,0 +1,78 @@
+//! What a processor does with a body that comes to it.
+
+ghost use Rattle.std.specs.Prelude.{◌≡◌, ◌+◌, ◌<◌, IfOk, OnOk};
+ghost use Rattle.std.specs.List.{All};
+
+use super::Node;
+use dsm_base::{Lock, MemFault, Mode, Proc, Task};
+use dsm_trace::{Body, CellValues, MailGrant, Msg, Sends, Waiting};
+use sqlite_items::Items;
+
+/// Who asks in a turn would take the lock in the next.
+fn waiting_of(proc: Proc, turn: u32, mode: Mode) -> Result<Waiting, MemFault>
+    ensures { IfOk result (λ waiting. waiting ≡ record { proc = proc; turn = turn + 1; mode = mode }) }
+{
+    let turn = turn.checked_add(1).ok_or(MemFault)?;
+    Ok(Waiting { proc, turn, mode })
+}
+
+impl<T: Task> Node<T> {
+    ghost use Rattle.dsm_trace.specs.Effects.{handled, lock_in};
+    ghost use Rattle.dsm_node.specs.Node.{processor_of, setup_of, me_of, IsShaped, IsWhole, IsSameNode, asked_effect};
+    ghost use Rattle.dsm_node.specs.Names.{BodyNames, IsSendOf};
+
+    /// Someone asks for a lock. Answers the grants that are sent for it.
+    fn ask_comes(&mut self, lock: Lock, waiting: Waiting) -> Result<Sends, MemFault>
+        requires shape { IsShaped self.old }
+        requires lock { lock.0 < (setup_of self.old).locks }
+        ensures sends { IfOk result (λ sends. sends ≡ (asked_effect (me_of self.old) (processor_of T.state self.old) lock waiting).sends) }
+        ensures processor { OnOk result (processor_of T.state self.new ≡ (asked_effect (me_of self.old) (processor_of T.state self.old) lock waiting).processor) }
+        ensures shape { OnOk result (IsShaped self.new) }
+        ensures same { IsSameNode self.old self.new }
+    {
+        let granted = self.home.ask(lock, waiting)?;
+        self.home.send_grants(self.turns, lock, &granted, &mut self.mail)
+    }
+
+    /// A processor gives a lock back. Answers the grants that are sent for it.
+    fn give_comes(&mut self, lock: Lock, from: Proc, mode: Mode, version: u32, cells: &CellValues) -> Result<Sends, MemFault>
+        requires shape { IsShaped self.old }
+        requires lock { lock.0 < (setup_of self.old).locks }
+        ensures sends { IfOk result (λ sends. sends ≡ (handled (me_of self.old) (processor_of T.state self.old) from.0 0 (Body.Release lock mode version cells.now)).sends) }
+        ensures processor { OnOk result (processor_of T.state self.new ≡ (handled (me_of self.old) (processor_of T.state self.old) from.0 0 (Body.Release lock mode version cells.now)).processor) }
+        ensures shape { OnOk result (IsShaped self.new) }
+        ensures same { IsSameNode self.old self.new }
+    {
+        let granted = self.home.give(lock, from, mode, version, cells)?;
+        self.home.send_grants(self.turns, lock, &granted, &mut self.mail)
+    }
+
+    /// Handles a body that comes from a turn of a processor. Answers what is sent for it.
+    fn dispatch(&mut self, from: Proc, turn: u32, body: &Body) -> Result<Sends, MemFault>
+        requires shape { IsShaped self.old }
+        requires lock { (lock_in body.now).0 < (setup_of self.old).locks }
+        ensures sends { IfOk result (λ sends. sends ≡ (handled (me_of self.old) (processor_of T.state self.old) from.0 turn body.now).sends) }
+        ensures processor { OnOk result (processor_of T.state self.new ≡ (handled (me_of self.old) (processor_of T.state self.old) from.0 turn body.now).processor) }
+        ensures shape { OnOk result (IsShaped self.new) }
+        ensures same { IsSameNode self.old self.new }
+    {
+        match body {
+            Body::Req { lock, mode } => {
+                self.ask_comes(*lock, waiting_of(from, turn, *mode)?)
+            }
+            Body::Release { lock, mode, version, cells } => {
+                self.give_comes(*lock, from, *mode, *version, cells)
+            }
+            Body::Grant { lock, mode, turn, version, cells } => {
+                self.mail.put(MailGrant {
+                    turn: *turn,
+                    lock: *lock,
+                    mode: *mode,
+                    version: *version,
+                    cells: Items::from_slice(self.alloc, cells.as_slice())?,
+                })?;
+                Ok(Items::new(self.alloc))
+            }
+        }
+    }
+}
