@@ -3,3 +3,4 @@ pub mod Places
 pub mod Cells
 pub mod Names
 pub mod Granted
+pub mod Whole

@@ -9,6 +9,7 @@ use Rattle.dsm_base.specs.declared.names.Mode.{Mode}
 use Rattle.dsm_base.specs.declared.setup.Setup.{Setup}
 use Rattle.dsm_base.specs.Access.{piece_of}
 use Rattle.dsm_base.specs.Family.{update}
+use Rattle.dsm_base.specs.Threads.{Semantics, StaysWithin}
 use Rattle.dsm_trace.specs.declared.message.Body.{Body}
 use Rattle.dsm_trace.specs.declared.message.CellValue.{CellValue}
 use Rattle.dsm_trace.specs.declared.message.MailGrant.{MailGrant}
@@ -18,7 +19,7 @@ use Rattle.dsm_trace.specs.declared.lock.Waiting.{Waiting}
 use Rattle.dsm_trace.specs.declared.lock.LockState.{LockState}
 use Rattle.dsm_trace.specs.Locks.{is_of_lock, cells_of, values_of, start_lock, is_compatible, holder_of, is_granted, granted_by_ask, asked, front_of, behind_front, without_holder, granted_by_give, given, cells_after}
 use Rattle.dsm_trace.specs.Processor.{Processor}
-use Rattle.dsm_trace.specs.Effects.{Effect, own_grant, grant_message, is_of, granted, waiting_of, handled}
+use Rattle.dsm_trace.specs.Effects.{Effect, own_grant, grant_message, is_of, granted, waiting_of, handled, lock_in}
 use Rattle.dsm_node.specs.Copy.{AreCells}
 use Rattle.dsm_node.specs.Names.{BodyNames, IsSendOf, LockNames, KeepsNames}
 
@@ -131,3 +132,14 @@ module _ (setup : Setup) where
       granted_sends me s lock (given (s.locks lock.0) from mode version cells) (granted_by_give (s.locks lock.0) from) names.0 (given_names (s.locks lock.0) from mode version cells (keeps.lock_names lock.0) names.1)
         (front_of_all (λ one. one.proc.0 < setup.procs) (without_holder from (s.locks lock.0).holders) (s.locks lock.0).queue (keeps.lock_names lock.0).waiting)
   handled_sends me s from turn (Body.Grant lock mode take version cells) keeps below names = All-nil (IsSendOf setup me)
+
+pub lock_named : (setup : Setup) (body : Body) → BodyNames setup body → (lock_in body).0 < setup.locks
+lock_named setup (Body.Req lock mode) names = names
+lock_named setup (Body.Grant lock mode turn version cells) names = names.0
+lock_named setup (Body.Release lock mode version cells) names = names.0
+
+-- the thread is as it was
+pub handled_thread : {S : Type 0} (threads : Semantics S) (setup : Setup) (me : ℕ) (s : Processor S) (from turn : ℕ) (body : Body) → StaysWithin setup threads s.thread → StaysWithin setup threads (handled me s from turn body).processor.thread
+handled_thread threads setup me s from turn (Body.Req lock mode) stays = stays
+handled_thread threads setup me s from turn (Body.Grant lock mode take version cells) stays = stays
+handled_thread threads setup me s from turn (Body.Release lock mode version cells) stays = stays

@@ -1,12 +1,13 @@
 -- A processor as contracts see it.
-use Rattle.std.specs.Prelude.{◌≡◌, ℕ, ℤ, pos, ◌+◌, ◌<◌, List, length, Option, Some, None}
+use Rattle.std.specs.Prelude.{◌≡◌, ℕ, ℤ, pos, ◌+◌, ◌<◌, if◌then◌else◌, List, length, Option, Some, None}
 use Rattle.dsm_base.specs.declared.names.Lock.{Lock}
 use Rattle.dsm_base.specs.declared.names.Mode.{Mode}
 use Rattle.dsm_base.specs.declared.label.Want.{Want}
 use Rattle.dsm_base.specs.declared.label.Label.{Label}
 use Rattle.dsm_base.specs.declared.setup.Setup.{Setup}
 use Rattle.dsm_base.specs.Threads.{Semantics, StaysWithin, Completes, MayStop, MayBeDone}
-use Rattle.dsm_trace.specs.Processor.{Processor, Deed, own_turn}
+use Rattle.dsm_base.specs.Plain.{label_of}
+use Rattle.dsm_trace.specs.Processor.{Processor, Deed, own_turn, is_ready, grant_for, own_view}
 use Rattle.dsm_trace.specs.Effects.{Effect, turned, granted}
 use Rattle.dsm_trace.specs.Locks.{asked, granted_by_ask}
 use Rattle.dsm_trace.specs.declared.lock.Waiting.{Waiting}
@@ -90,3 +91,9 @@ processor_stepped setup threads me s (Some deed) = (turned setup threads me s de
 -- someone asks the home for a lock
 abbrev pub asked_effect : {S : Type 0} → ℕ → Processor S → Lock → Waiting → Effect S
 asked_effect me s lock waiting = granted me s lock (asked (s.locks lock.0) waiting) (granted_by_ask (s.locks lock.0) waiting)
+
+-- the label of the next turn of a thread that wants this, where it can make one
+abbrev pub label_at : {T S : Type 0} → (T → S) → Semantics S → Node T S → Want → Option Label
+label_at state threads node want =
+    let s = processor_of state node in
+    if is_ready (grant_for (s.turns + 1) s.mail) want then label_of node.setup.value.bindings node.me.0 (own_view s) (threads.text s.thread) want else None

@@ -4,6 +4,7 @@ ghost use Rattle.std.specs.Prelude.{◌≡◌, ◌+◌, ◌<◌, ℕ, None, Some
 ghost use Rattle.std.specs.List.{All};
 
 mod effects;
+mod turn;
 
 use crate::access::{may_load, may_store};
 use crate::barriers::{change_arrived, change_crossed, zero_counts};

@@ -75,4 +75,33 @@ impl<T: Task> Node<T> {
             }
         }
     }
+
+    /// The same, by the definitions over all that a processor keeps.
+    fn handle(&mut self, from: Proc, turn: u32, body: &Body) -> Result<Sends, MemFault>
+        requires whole { IsWhole T.state T.semantics self.old }
+        requires from { from.0 < (setup_of self.old).procs }
+        requires names { BodyNames (setup_of self.old) body.now }
+        ensures sends { IfOk result (λ sends. sends ≡ (handled (me_of self.old) (processor_of T.state self.old) from.0 turn body.now).sends) }
+        ensures processor { OnOk result (processor_of T.state self.new ≡ (handled (me_of self.old) (processor_of T.state self.old) from.0 turn body.now).processor) }
+        ensures whole { OnOk result (IsWhole T.state T.semantics self.new) }
+        ensures within { IfOk result (All (IsSendOf (setup_of self.old) (me_of self.old))) }
+        ensures same { IsSameNode self.old self.new }
+    {
+        self.dispatch(from, turn, body)
+    }
+
+    /// Handles a message. Answers the messages that it sends for it.
+    pub fn receive(&mut self, msg: &Msg) -> Result<Sends, MemFault>
+        requires whole { IsWhole T.state T.semantics self.old }
+        requires to { msg.now.to.0 ≡ me_of self.old }
+        requires from { msg.now.from.0 < (setup_of self.old).procs }
+        requires names { BodyNames (setup_of self.old) msg.now.body }
+        ensures sends { IfOk result (λ sends. sends ≡ (handled (me_of self.old) (processor_of T.state self.old) msg.now.from.0 msg.now.carry.turn msg.now.body).sends) }
+        ensures processor { OnOk result (processor_of T.state self.new ≡ (handled (me_of self.old) (processor_of T.state self.old) msg.now.from.0 msg.now.carry.turn msg.now.body).processor) }
+        ensures whole { OnOk result (IsWhole T.state T.semantics self.new) }
+        ensures within { IfOk result (All (IsSendOf (setup_of self.old) (me_of self.old))) }
+        ensures same { IsSameNode self.old self.new }
+    {
+        self.handle(msg.from, msg.carry.turn, &msg.body)
+    }
 }
