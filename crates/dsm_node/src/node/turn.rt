@@ -42,9 +42,12 @@ impl<T: Task> Node<T> {
     ghost use Rattle.dsm_base.specs.Access.{may_load, may_store};
     ghost use Rattle.dsm_base.specs.Plain.{label_of};
     ghost use Rattle.dsm_base.specs.Threads.{Names};
-    ghost use Rattle.dsm_trace.specs.Processor.{own_view, own_label};
+    ghost use Rattle.dsm_trace.specs.Processor.{grant_for, brought, mail_after, processor_after};
+    ghost use Rattle.dsm_trace.specs.Effects.{release_of, body_of};
+    ghost use Rattle.dsm_node.specs.Copy.{AreCells};
+    ghost use Rattle.dsm_node.specs.Holds.{held_of};
     ghost use Rattle.dsm_node.specs.Names.{LabelNames, IsSendOf};
-    ghost use Rattle.dsm_node.specs.Node.{processor_of, setup_of, me_of, IsShaped, IsWhole, IsSameNode, label_at};
+    ghost use Rattle.dsm_node.specs.Node.{processor_of, setup_of, me_of, IsShaped, IsWhole, IsSameNode, label_at, mode_given};
 
     /// A load of a cell, or a fault where it isn't allowed.
     fn load_label(&self, cell: Cell, line: u32) -> Label
@@ -126,5 +129,86 @@ impl<T: Task> Node<T> {
             Want::Stop(fault, line) => Label::Stop(fault, line),
             Want::Cross(_) | Want::Over => return Ok(None),
         }))
+    }
+
+    /// The mode in which the lock that a label gives back is held.
+    fn mode_given(&self, label: &Label) -> Option<Mode>
+        ensures { result ≡ mode_given (held_of self.now.held) label.now }
+    {
+        match label {
+            Label::Give(lock) => mode_at(&self.held, *lock),
+            _ => None,
+        }
+    }
+
+    /// Takes the cells that a label brings out of the mailbox.
+    fn collect(&mut self, turn: u32, label: &Label) -> CellValues
+        requires shape { IsShaped self.old }
+        ensures cells { result ≡ brought (grant_for turn self.old.mail) label.now }
+        ensures processor { processor_of T.state self.new ≡ record (processor_of T.state self.old) { mail = mail_after self.old.mail turn label.now } }
+        ensures shape { IsShaped self.new }
+        ensures same { IsSameNode self.old self.new }
+        ensures task { self.new.task ≡ self.old.task }
+    {
+        match label {
+            Label::Take(..) => self.mail.collect(self.alloc, turn),
+            _ => Items::new(self.alloc),
+        }
+    }
+
+    /// Goes on by a label that answers what the thread told, but for the mailbox.
+    fn advance(&mut self, turn: u32, label: &Label, cells: &CellValues) -> Result<(), MemFault>
+        requires shape { IsShaped self.old }
+        requires turn { turn ≡ self.old.turns + 1 }
+        requires names { LabelNames (setup_of self.old) label.now }
+        requires brought { AreCells (setup_of self.old).cells cells.now }
+        requires answers { IsSomeAnd (T.told self.old.task) (λ want. AnswersTo want label.now) }
+        ensures processor { OnOk result (processor_of T.state self.new ≡ record (processor_after T.semantics (processor_of T.state self.old) label.now cells.now) { mail = self.old.mail }) }
+        ensures shape { OnOk result (IsShaped self.new) }
+        ensures same { IsSameNode self.old self.new }
+    {
+        change_copy(&mut self.copy, label, cells.as_slice());
+        change_versions(&mut self.versions, &self.held, label)?;
+        change_held(&mut self.held, label);
+        change_arrived(&mut self.arrived, label)?;
+        change_crossed(&mut self.crossed, label);
+        self.ending = ending_after(self.ending, label);
+        self.turns = turn;
+        finish(&mut self.task, label);
+        Ok(())
+    }
+
+    /// What the home of a lock is told when a hold in this mode has ended.
+    fn release(&self, lock: Lock, mode: Mode) -> Result<Body, MemFault>
+        requires shape { IsShaped self.now }
+        requires lock { lock.0 < (setup_of self.now).locks }
+        ensures { IfOk result (λ body. release_of (setup_of self.now) (processor_of T.state self.now) lock (Some mode) ≡ Some body) }
+    {
+        let cells = match mode {
+            Mode::Shared => Items::new(self.alloc),
+            Mode::Excl => read_cells(self.alloc, &self.copy, self.cells[lock.0 as usize].as_slice())?,
+        };
+        Ok(Body::Release {
+            lock,
+            mode,
+            version: self.versions.as_slice()[lock.0 as usize],
+            cells,
+        })
+    }
+
+    /// What a label tells a home, where the lock that it gives back was held so.
+    fn body(&self, held: Option<Mode>, label: &Label) -> Result<Option<Body>, MemFault>
+        requires shape { IsShaped self.now }
+        requires names { LabelNames (setup_of self.now) label.now }
+        ensures { IfOk result (λ body. body ≡ body_of (setup_of self.now) (λ _. held) (processor_of T.state self.now) label.now) }
+    {
+        match (label, held) {
+            (Label::Ask(lock, mode), _) => Ok(Some(Body::Req {
+                lock: *lock,
+                mode: *mode,
+            })),
+            (Label::Give(lock), Some(mode)) => Ok(Some(self.release(*lock, mode)?)),
+            _ => Ok(None),
+        }
     }
 }
