@@ -1,5 +1,5 @@
 -- The cells of a lock, one cell on.
-use Rattle.std.proofs.Common.{◌≡◌, ℕ, ◌+◌, Bool, true, false, List, [], ◌∷◌, ◌++◌, map, filter, refl, sym, ap, ◌∙◌, append-nil, arith, if◌then◌else◌, ◌<◌, length, get_or, subst}
+use Rattle.std.proofs.Common.{◌≡◌, ℕ, ◌+◌, Bool, true, false, List, [], ◌∷◌, ◌++◌, filter, refl, sym, ap, ◌∙◌, arith, if◌then◌else◌, ◌<◌, length, get_or, subst}
 use Rattle.std.specs.List.{All, range_with_len}
 use Rattle.std.proofs.lemmas.List.{get_or_read}
 use Rattle.std.proofs.lemmas.List.{map-id, map-append}
@@ -40,4 +40,4 @@ pub listed_below : (setup : Setup) (lists : List (List Cell)) (lock : ℕ) (cell
 listed_below setup lists lock cells has within read =
     let place : lock < length lists = omega (arith, has.count) in
     cells_below setup.cells cells
-      (subst (All (λ n. n < setup.cells)) (sym (ap numbers_of (get_or_read lists lock cells place read []) ∙ has.listed lock within)) (cells_of_below setup lock))
+    (subst (All (λ n. n < setup.cells)) (sym (ap numbers_of (get_or_read lists lock cells place read []) ∙ has.listed lock within)) (cells_of_below setup lock))

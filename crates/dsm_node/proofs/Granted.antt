@@ -1,5 +1,5 @@
 -- A lock is in a new state at its home, and its grants are sent.
-use Rattle.std.proofs.Common.{◌≡◌, ◌==◌, ℕ, List, ◌++◌, not, map, filter, refl, sym, ap, ◌∙◌, cond}
+use Rattle.std.proofs.Common.{◌≡◌, ℕ, List, ◌++◌, not, map, filter, refl, ap, ◌∙◌}
 use Rattle.std.proofs.lemmas.Bool.{eq-eqb}
 use Rattle.dsm_base.specs.declared.names.Lock.{Lock}
 use Rattle.dsm_base.specs.Family.{update}

@@ -4,3 +4,4 @@ pub mod Cells
 pub mod Names
 pub mod Granted
 pub mod Whole
+pub mod Turns

@@ -1,5 +1,5 @@
 -- What a processor keeps and sends names processors, locks and cells of the setup.
-use Rattle.std.proofs.Common.{◌≡◌, ◌<◌, ◌≤◌, ◌+◌, ◌==◌, ℕ, zero, suc, ℤ, pos, Bool, true, false, not, cond, if◌then◌else◌, List, [], ◌∷◌, ◌++◌, length, get_or, map, filter, refl, sym, ap, ◌∙◌, subst, inl, inr, arith}
+use Rattle.std.proofs.Common.{◌≡◌, ◌<◌, ℕ, ℤ, pos, true, false, not, if◌then◌else◌, List, [], ◌∷◌, ◌++◌, map, filter, refl, inl, inr, arith}
 use Rattle.std.specs.List.{All, range_with_len}
 use Rattle.std.proofs.lemmas.List.Elements.{All-map, All-filter, All-append, All-cons, All-nil, All-head, All-tail}
 use Rattle.std.proofs.lemmas.List.FromFn.{get_or-range_with_len, length-range_with_len}
@@ -13,13 +13,12 @@ use Rattle.dsm_base.specs.Threads.{Semantics, StaysWithin}
 use Rattle.dsm_trace.specs.declared.message.Body.{Body}
 use Rattle.dsm_trace.specs.declared.message.CellValue.{CellValue}
 use Rattle.dsm_trace.specs.declared.message.MailGrant.{MailGrant}
-use Rattle.dsm_trace.specs.declared.message.Msg.{Msg}
 use Rattle.dsm_trace.specs.declared.lock.Holder.{Holder}
 use Rattle.dsm_trace.specs.declared.lock.Waiting.{Waiting}
 use Rattle.dsm_trace.specs.declared.lock.LockState.{LockState}
 use Rattle.dsm_trace.specs.Locks.{is_of_lock, cells_of, values_of, start_lock, is_compatible, holder_of, is_granted, granted_by_ask, asked, front_of, behind_front, without_holder, granted_by_give, given, cells_after}
 use Rattle.dsm_trace.specs.Processor.{Processor}
-use Rattle.dsm_trace.specs.Effects.{Effect, own_grant, grant_message, is_of, granted, waiting_of, handled, lock_in}
+use Rattle.dsm_trace.specs.Effects.{own_grant, grant_message, is_of, granted, waiting_of, handled, lock_in}
 use Rattle.dsm_node.specs.Copy.{AreCells}
 use Rattle.dsm_node.specs.Names.{BodyNames, IsSendOf, LockNames, KeepsNames}
 
@@ -96,19 +95,19 @@ module _ (setup : Setup) where
       → KeepsNames setup (granted me s lock state waiting).processor.mail (granted me s lock state waiting).processor.locks
   granted_names me s lock state waiting keeps names below = record {
     mail_cells = All-append (λ grant. AreCells setup.cells grant.cells) s.mail (map (own_grant lock state) (filter (is_of me) waiting)) keeps.mail_cells
-      (All-map (λ (grant : MailGrant). AreCells setup.cells grant.cells) (own_grant lock state) (filter (is_of me) waiting) (λ k d h. names.cells));
+        (All-map (λ (grant : MailGrant). AreCells setup.cells grant.cells) (own_grant lock state) (filter (is_of me) waiting) (λ k d h. names.cells));
     lock_names = λ other.
-      elim (eqb_tells other lock.0) as (λ _. LockNames setup (update s.locks lock.0 state other)) [
-        | inl (same, _) ↦ rw same names
-        | inr (differs, _) ↦ rw differs (keeps.lock_names other)
-      ];
+        elim (eqb_tells other lock.0) as (λ _. LockNames setup (update s.locks lock.0 state other)) [
+          | inl (same, _) ↦ rw same names
+          | inr (differs, _) ↦ rw differs (keeps.lock_names other)
+        ];
   }
 
   granted_sends : {S : Type 0} (me : ℕ) (s : Processor S) (lock : Lock) (state : LockState) (waiting : List Waiting) → lock.0 < setup.locks → LockNames setup state → All (λ one. one.proc.0 < setup.procs) waiting
       → All (IsSendOf setup me) (granted me s lock state waiting).sends
   granted_sends me s lock state waiting within names below =
       All-map (IsSendOf setup me) (grant_message me s.turns lock state) (filter (λ one. not (is_of me one)) waiting)
-        (λ k d h. record { from = refl; to = All-filter (λ one. not (is_of me one)) (λ one. one.proc.0 < setup.procs) waiting below k d h; names = (within, names.cells) })
+      (λ k d h. record { from = refl; to = All-filter (λ one. not (is_of me one)) (λ one. one.proc.0 < setup.procs) waiting below k d h; names = (within, names.cells) })
 
   -- a body that names what is of the setup leaves a processor that does
   pub handled_names : {S : Type 0} (me : ℕ) (s : Processor S) (from turn : ℕ) (body : Body) → KeepsNames setup s.mail s.locks → from < setup.procs → BodyNames setup body
@@ -118,7 +117,7 @@ module _ (setup : Setup) where
       granted_names me s lock (asked (s.locks lock.0) one) (granted_by_ask (s.locks lock.0) one) keeps (asked_names (s.locks lock.0) one (keeps.lock_names lock.0) below) (granted_by_ask_names (s.locks lock.0) one below)
   handled_names me s from turn (Body.Release lock mode version cells) keeps below names =
       granted_names me s lock (given (s.locks lock.0) from mode version cells) (granted_by_give (s.locks lock.0) from) keeps (given_names (s.locks lock.0) from mode version cells (keeps.lock_names lock.0) names.1)
-        (front_of_all (λ one. one.proc.0 < setup.procs) (without_holder from (s.locks lock.0).holders) (s.locks lock.0).queue (keeps.lock_names lock.0).waiting)
+      (front_of_all (λ one. one.proc.0 < setup.procs) (without_holder from (s.locks lock.0).holders) (s.locks lock.0).queue (keeps.lock_names lock.0).waiting)
   handled_names me s from turn (Body.Grant lock mode take version cells) keeps below names = record {
     mail_cells = All-append (λ grant. AreCells setup.cells grant.cells) s.mail _ keeps.mail_cells (All-cons (λ (grant : MailGrant). AreCells setup.cells grant.cells) _ [] names.1 (All-nil (λ (grant : MailGrant). AreCells setup.cells grant.cells)));
     lock_names = keeps.lock_names;
@@ -130,7 +129,7 @@ module _ (setup : Setup) where
       granted_sends me s lock (asked (s.locks lock.0) one) (granted_by_ask (s.locks lock.0) one) names (asked_names (s.locks lock.0) one (keeps.lock_names lock.0) below) (granted_by_ask_names (s.locks lock.0) one below)
   handled_sends me s from turn (Body.Release lock mode version cells) keeps below names =
       granted_sends me s lock (given (s.locks lock.0) from mode version cells) (granted_by_give (s.locks lock.0) from) names.0 (given_names (s.locks lock.0) from mode version cells (keeps.lock_names lock.0) names.1)
-        (front_of_all (λ one. one.proc.0 < setup.procs) (without_holder from (s.locks lock.0).holders) (s.locks lock.0).queue (keeps.lock_names lock.0).waiting)
+      (front_of_all (λ one. one.proc.0 < setup.procs) (without_holder from (s.locks lock.0).holders) (s.locks lock.0).queue (keeps.lock_names lock.0).waiting)
   handled_sends me s from turn (Body.Grant lock mode take version cells) keeps below names = All-nil (IsSendOf setup me)
 
 pub lock_named : (setup : Setup) (body : Body) → BodyNames setup body → (lock_in body).0 < setup.locks

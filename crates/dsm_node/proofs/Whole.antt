@@ -1,7 +1,6 @@
 -- What keeps a processor whole.
-use Rattle.std.proofs.Common.{◌≡◌, ℕ, Result, Ok, Err, sym, ap, ◌∙◌, subst}
+use Rattle.std.proofs.Common.{◌≡◌, Result, Ok, Err, sym, subst}
 use Rattle.std.specs.Prelude.{OnOk}
-use Rattle.dsm_base.specs.declared.setup.Setup.{Setup}
 use Rattle.dsm_base.specs.Threads.{Semantics, StaysWithin}
 use Rattle.dsm_trace.specs.Processor.{Processor}
 use Rattle.dsm_node.specs.Names.{KeepsNames}

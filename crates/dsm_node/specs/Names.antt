@@ -4,7 +4,6 @@ use Rattle.std.specs.List.{All}
 use Rattle.dsm_base.specs.declared.label.Label.{Label}
 use Rattle.dsm_base.specs.declared.setup.Setup.{Setup}
 use Rattle.dsm_trace.specs.declared.message.Body.{Body}
-use Rattle.dsm_trace.specs.declared.message.CellValue.{CellValue}
 use Rattle.dsm_trace.specs.declared.message.MailGrant.{MailGrant}
 use Rattle.dsm_trace.specs.declared.message.Msg.{Msg}
 use Rattle.dsm_trace.specs.declared.lock.LockState.{LockState}

@@ -1,5 +1,5 @@
 -- A processor as contracts see it.
-use Rattle.std.specs.Prelude.{◌≡◌, ℕ, ℤ, pos, ◌+◌, ◌<◌, if◌then◌else◌, List, length, Option, Some, None}
+use Rattle.std.specs.Prelude.{◌≡◌, ℕ, pos, ◌+◌, ◌<◌, if◌then◌else◌, length, Option, Some, None}
 use Rattle.dsm_base.specs.declared.names.Lock.{Lock}
 use Rattle.dsm_base.specs.declared.names.Mode.{Mode}
 use Rattle.dsm_base.specs.declared.label.Want.{Want}
@@ -7,7 +7,7 @@ use Rattle.dsm_base.specs.declared.label.Label.{Label}
 use Rattle.dsm_base.specs.declared.setup.Setup.{Setup}
 use Rattle.dsm_base.specs.Threads.{Semantics, StaysWithin, Completes, MayStop, MayBeDone}
 use Rattle.dsm_base.specs.Plain.{label_of}
-use Rattle.dsm_trace.specs.Processor.{Processor, Deed, own_turn, is_ready, grant_for, own_view}
+use Rattle.dsm_trace.specs.Processor.{Processor, Deed, is_ready, grant_for, own_view, brought, processor_after}
 use Rattle.dsm_trace.specs.Effects.{Effect, turned, granted}
 use Rattle.dsm_trace.specs.Locks.{asked, granted_by_ask}
 use Rattle.dsm_trace.specs.declared.lock.Waiting.{Waiting}
@@ -97,3 +97,7 @@ abbrev pub label_at : {T S : Type 0} → (T → S) → Semantics S → Node T S 
 label_at state threads node want =
     let s = processor_of state node in
     if is_ready (grant_for (s.turns + 1) s.mail) want then label_of node.setup.value.bindings node.me.0 (own_view s) (threads.text s.thread) want else None
+
+-- the processor after a turn of this label, before a home is told
+abbrev pub turned_processor : {S : Type 0} → Semantics S → Processor S → Label → Processor S
+turned_processor threads s label = processor_after threads s label (brought (grant_for (s.turns + 1) s.mail) label)

@@ -11,7 +11,9 @@ use crate::layout::Cells;
 use crate::lock;
 use crate::mailbox::Mailbox;
 use dsm_base::{Lock, MemFault, Mode, Proc, Setup};
-use dsm_trace::{Body, Carry, CellValue, CellValues, LockState, MailGrant, Msg, Queue, Sends, Waiting};
+use dsm_trace::{
+    Body, Carry, CellValue, CellValues, LockState, MailGrant, Msg, Queue, Sends, Waiting,
+};
 use sqlite_items::Items;
 use std::alloc::Global;
 use std::rc::Rc;
@@ -41,7 +43,12 @@ fn zeros(alloc: Global, cells: &Cells) -> Result<CellValues, MemFault>
 
 impl Home {
     /// The locks that nobody has asked for.
-    pub fn start(alloc: Global, setup: Rc<Setup>, me: Proc, cells: &[Cells]) -> Result<Home, MemFault>
+    pub fn start(
+        alloc: Global,
+        setup: Rc<Setup>,
+        me: Proc,
+        cells: &[Cells],
+    ) -> Result<Home, MemFault>
         requires { HasCells setup.value cells.now }
         ensures locks { IfOk result (λ home. locks_of home ≡ start_lock setup.value) }
         ensures count { IfOk result (λ home. lock_count home ≡ setup.value.locks) }
@@ -57,7 +64,12 @@ impl Home {
                 cells: zeros(alloc, cells)?,
             })?;
         }
-        Ok(Home { alloc, setup, me, states })
+        Ok(Home {
+            alloc,
+            setup,
+            me,
+            states,
+        })
     }
 
     /// The state of a lock.
@@ -80,13 +92,27 @@ impl Home {
 
     /// A processor gives a lock back: an exclusive hold has made this version, with these cells. Answers
     /// who is granted it.
-    pub fn give(&mut self, lock: Lock, proc: Proc, mode: Mode, version: u32, cells: &CellValues) -> Result<Queue, MemFault>
+    pub fn give(
+        &mut self,
+        lock: Lock,
+        proc: Proc,
+        mode: Mode,
+        version: u32,
+        cells: &CellValues,
+    ) -> Result<Queue, MemFault>
         requires { lock.0 < lock_count self.old }
         ensures granted { IfOk result (λ granted. granted ≡ granted_by_give (locks_of self.old lock.0) proc.0) }
         ensures given { OnOk result (locks_of self.new ≡ update (locks_of self.old) lock.0 (given (locks_of self.old lock.0) proc.0 mode version cells.now)) }
         ensures same { IsSameHome self.old self.new }
     {
-        lock::give(self.alloc, &mut self.states[lock.0 as usize], proc, mode, version, cells)
+        lock::give(
+            self.alloc,
+            &mut self.states[lock.0 as usize],
+            proc,
+            mode,
+            version,
+            cells,
+        )
     }
 
     /// The grant of a lock for the own mailbox.
@@ -125,7 +151,13 @@ impl Home {
     }
 
     /// Sends the grants of a lock; its own goes to the mailbox.
-    pub fn send_grants(&self, turn: u32, lock: Lock, granted: &Queue, mail: &mut Mailbox) -> Result<Sends, MemFault>
+    pub fn send_grants(
+        &self,
+        turn: u32,
+        lock: Lock,
+        granted: &Queue,
+        mail: &mut Mailbox,
+    ) -> Result<Sends, MemFault>
         requires { lock.0 < lock_count self.now }
         ensures mail { OnOk result (mail.new ≡ mail.old ++ map (own_grant lock (locks_of self.now lock.0)) (filter (is_of self.now.me.0) granted.now)) }
         ensures sends { IfOk result (λ sends. sends ≡ map (grant_message self.now.me.0 turn lock (locks_of self.now lock.0)) (filter (λ one. not (is_of self.now.me.0 one)) granted.now)) }

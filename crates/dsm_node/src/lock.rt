@@ -34,7 +34,9 @@ fn without_holder(alloc: Global, holders: &Holders, proc: Proc) -> Result<Holder
     ensures { IfOk result (λ others. others ≡ without_holder proc.0 holders.now) }
 {
     let holders = holders.as_slice().iter().copied();
-    let others = holders.filter(|holder| holder.proc.0 != proc.0).collect(alloc)?;
+    let others = holders
+        .filter(|holder| holder.proc.0 != proc.0)
+        .collect(alloc)?;
     Ok(Items::from_vec(others))
 }
 
@@ -74,7 +76,14 @@ pub fn ask(alloc: Global, lock: &mut LockState, waiting: Waiting) -> Result<Queu
 
 /// A processor gives the lock back: an exclusive hold has made this version, with these cells. Answers
 /// who is granted it.
-pub fn give(alloc: Global, lock: &mut LockState, proc: Proc, mode: Mode, version: u32, cells: &CellValues) -> Result<Queue, MemFault>
+pub fn give(
+    alloc: Global,
+    lock: &mut LockState,
+    proc: Proc,
+    mode: Mode,
+    version: u32,
+    cells: &CellValues,
+) -> Result<Queue, MemFault>
     ensures granted { IfOk result (λ granted. granted ≡ granted_by_give lock.old proc.0) }
     ensures given { OnOk result (lock.new ≡ given lock.old proc.0 mode version cells.now) }
 {

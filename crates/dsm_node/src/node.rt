@@ -85,4 +85,18 @@ impl<T: Task> Node<T> {
             setup,
         })
     }
+
+    /// How many turns it has made.
+    pub fn turns(&self) -> u32
+        ensures { result ≡ (processor_of T.state self.now).turns }
+    {
+        self.turns
+    }
+
+    /// How its thread came to be over.
+    pub fn ending(&self) -> Option<Ending>
+        ensures { result ≡ (processor_of T.state self.now).ending }
+    {
+        self.ending
+    }
 }

@@ -42,12 +42,12 @@ impl<T: Task> Node<T> {
     ghost use Rattle.dsm_base.specs.Access.{may_load, may_store};
     ghost use Rattle.dsm_base.specs.Plain.{label_of};
     ghost use Rattle.dsm_base.specs.Threads.{Names};
-    ghost use Rattle.dsm_trace.specs.Processor.{grant_for, brought, mail_after, processor_after};
+    ghost use Rattle.dsm_trace.specs.Processor.{grant_for, brought, mail_after, processor_after, own_turn};
     ghost use Rattle.dsm_trace.specs.Effects.{release_of, body_of};
     ghost use Rattle.dsm_node.specs.Copy.{AreCells};
     ghost use Rattle.dsm_node.specs.Holds.{held_of};
     ghost use Rattle.dsm_node.specs.Names.{LabelNames, IsSendOf};
-    ghost use Rattle.dsm_node.specs.Node.{processor_of, setup_of, me_of, IsShaped, IsWhole, IsSameNode, label_at, mode_given};
+    ghost use Rattle.dsm_node.specs.Node.{processor_of, setup_of, me_of, IsShaped, IsWhole, IsSameNode, label_at, mode_given, turned_processor, stepped_by, processor_stepped};
 
     /// A load of a cell, or a fault where it isn't allowed.
     fn load_label(&self, cell: Cell, line: u32) -> Label
@@ -186,7 +186,11 @@ impl<T: Task> Node<T> {
     {
         let cells = match mode {
             Mode::Shared => Items::new(self.alloc),
-            Mode::Excl => read_cells(self.alloc, &self.copy, self.cells[lock.0 as usize].as_slice())?,
+            Mode::Excl => read_cells(
+                self.alloc,
+                &self.copy,
+                self.cells[lock.0 as usize].as_slice(),
+            )?,
         };
         Ok(Body::Release {
             lock,
@@ -210,5 +214,52 @@ impl<T: Task> Node<T> {
             (Label::Give(lock), Some(mode)) => Ok(Some(self.release(*lock, mode)?)),
             _ => Ok(None),
         }
+    }
+
+    /// Makes the turn of this label. Answers the cells that it brings, and what it tells a home.
+    fn make_turn(
+        &mut self,
+        turn: u32,
+        label: &Label,
+    ) -> Result<(CellValues, Option<Body>), MemFault>
+        requires whole { IsWhole T.state T.semantics self.old }
+        requires turn { turn ≡ self.old.turns + 1 }
+        requires names { LabelNames (setup_of self.old) label.now }
+        requires answers { IsSomeAnd (T.told self.old.task) (λ want. AnswersTo want label.now) }
+        ensures cells { IfOk result (λ made. made.0 ≡ brought (grant_for turn self.old.mail) label.now) }
+        ensures body { IfOk result (λ made. made.1 ≡ body_of (setup_of self.old) (held_of self.old.held) (turned_processor T.semantics (processor_of T.state self.old) label.now) label.now) }
+        ensures processor { OnOk result (processor_of T.state self.new ≡ turned_processor T.semantics (processor_of T.state self.old) label.now) }
+        ensures whole { OnOk result (IsWhole T.state T.semantics self.new) }
+        ensures same { IsSameNode self.old self.new }
+    {
+        let held = self.mode_given(label);
+        let cells = self.collect(turn, label);
+        self.advance(turn, label, &cells)?;
+        let body = self.body(held, label)?;
+        Ok((cells, body))
+    }
+
+    /// One turn, where the thread can make one.
+    pub fn step(&mut self) -> Result<Option<Stepped>, MemFault>
+        requires { IsWhole T.state T.semantics self.old }
+        ensures stepped { IfOk result (λ stepped. stepped ≡ stepped_by (setup_of self.old) T.semantics (me_of self.old) (processor_of T.state self.old) (own_turn (setup_of self.old) T.semantics (me_of self.old) (processor_of T.state self.old))) }
+        ensures processor { OnOk result (processor_of T.state self.new ≡ processor_stepped (setup_of self.old) T.semantics (me_of self.old) (processor_of T.state self.old) (own_turn (setup_of self.old) T.semantics (me_of self.old) (processor_of T.state self.old))) }
+        ensures whole { OnOk result (IsWhole T.state T.semantics self.new) }
+        ensures within { IfOk result (λ stepped. IfSome stepped (λ one. All (IsSendOf (setup_of self.old) (me_of self.old)) one.sends)) }
+        ensures same { IsSameNode self.old self.new }
+    {
+        let want = self.task.want();
+        let turn = self.turns.checked_add(1).ok_or(MemFault)?;
+        let Some(label) = self.own_label(turn, want)? else {
+            return Ok(None);
+        };
+        let (cells, body) = self.make_turn(turn, &label)?;
+        let sends = self.tell_home(body)?;
+        Ok(Some(Stepped {
+            turn,
+            label,
+            cells,
+            sends,
+        }))
     }
 }

@@ -1,4 +1,4 @@
-use Rattle.std.proofs.Common.{◌≡◌, ℕ, None, get_or, ap, ◌∙◌, arith, ◌<◌, length}
+use Rattle.std.proofs.Common.{None, get_or, ap, ◌∙◌, arith, ◌<◌, length}
 use Rattle.dsm_base.specs.Access.{piece_of}
 use Rattle.dsm_trace.specs.Locks.{is_of_lock}
 use Rattle.dsm_node.proofs.Cells.{listed_more}

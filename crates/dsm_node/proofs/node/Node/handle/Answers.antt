@@ -1,8 +1,6 @@
-use Rattle.std.proofs.Common.{◌≡◌, ap, ◌∙◌, sym, subst}
+use Rattle.std.proofs.Common.{sym, subst}
 use Rattle.std.specs.List.{All}
-use Rattle.std.proofs.lemmas.Result.{IfOk-weaker, on_ok_weaker}
-use Rattle.dsm_trace.specs.declared.message.Msg.{Msg}
-use Rattle.dsm_trace.specs.Effects.{handled}
+use Rattle.std.proofs.lemmas.Result.{IfOk-weaker}
 use Rattle.dsm_node.specs.Names.{IsSendOf}
 use Rattle.dsm_node.specs.Node.{processor_of, me_of, setup_of}
 use Rattle.dsm_node.proofs.Names.{handled_names, handled_sends, handled_thread, lock_named}
@@ -17,15 +15,15 @@ returns-clause-whole g c =
     let setup = setup_of c.args.self.now in
     let s = processor_of g.T.Task.state c.args.self.now in
     on_ok_both c.dispatch.result
-      (λ is shape. whole_from g.T.Task.state g.T.Task.semantics c.args.self.now c.dispatch.new.self c.dispatch.ensures.same.setup _ is
-        (handled_thread g.T.Task.semantics setup (me_of c.args.self.now) s c.args.from.0 c.args.turn c.args.body.now c.requires.whole.stays)
-        (handled_names setup (me_of c.args.self.now) s c.args.from.0 c.args.turn c.args.body.now c.requires.whole.names c.requires.from c.requires.names) shape)
-      c.dispatch.ensures.processor c.dispatch.ensures.shape
+    (λ is shape. whole_from g.T.Task.state g.T.Task.semantics c.args.self.now c.dispatch.new.self c.dispatch.ensures.same.setup _ is
+    (handled_thread g.T.Task.semantics setup (me_of c.args.self.now) s c.args.from.0 c.args.turn c.args.body.now c.requires.whole.stays)
+    (handled_names setup (me_of c.args.self.now) s c.args.from.0 c.args.turn c.args.body.now c.requires.whole.names c.requires.from c.requires.names) shape)
+    c.dispatch.ensures.processor c.dispatch.ensures.shape
 
 pub returns-clause-within : goal.returns-clause-within
 returns-clause-within g c =
     let setup = setup_of c.args.self.now in
     let s = processor_of g.T.Task.state c.args.self.now in
     IfOk-weaker c.dispatch.result _ _
-      (λ sends is. subst (All (IsSendOf setup (me_of c.args.self.now))) (sym is) (handled_sends setup (me_of c.args.self.now) s c.args.from.0 c.args.turn c.args.body.now c.requires.whole.names c.requires.from c.requires.names))
-      c.dispatch.ensures.sends
+    (λ sends is. subst (All (IsSendOf setup (me_of c.args.self.now))) (sym is) (handled_sends setup (me_of c.args.self.now) s c.args.from.0 c.args.turn c.args.body.now c.requires.whole.names c.requires.from c.requires.names))
+    c.dispatch.ensures.sends

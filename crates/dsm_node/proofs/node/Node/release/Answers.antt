@@ -1,6 +1,3 @@
-use Rattle.std.proofs.Common.{◌≡◌, ◌<◌, ap, ◌∙◌, sym, subst, get_or}
-use Rattle.std.specs.List.{All}
-use Rattle.dsm_base.specs.declared.names.Cell.{Cell}
 use Rattle.dsm_node.specs.Node.{setup_of}
 use Rattle.dsm_node.proofs.Cells.{listed_below}
 use Rattle.dsm_node.proofs.node.Node.release.Goals as goal

@@ -1,6 +1,4 @@
-use Rattle.std.proofs.Common.{◌≡◌, ◌∙◌, sym, subst, ℕ, rules, ap, []}
-use Rattle.dsm_trace.specs.declared.lock.LockState.{LockState}
-use Rattle.dsm_node.specs.Names.{KeepsNames}
+use Rattle.std.proofs.Common.{rules}
 use Rattle.dsm_node.proofs.Names.{start_names}
 use Rattle.dsm_node.proofs.node.Node.start.Goals as goal
 
