@@ -1,7 +1,7 @@
 //! Which cells a thread may load and store to.
 
-ghost use Rattle.std.specs.Prelude.{◌≡◌, ◌%◌, ℕ};
-ghost use Rattle.dsm_base.specs.Access.{Rights, is_phase, may_load_piece, may_store_piece};
+ghost use Rattle.std.specs.Prelude.{◌≡◌};
+ghost use Rattle.dsm_base.specs.Access.{is_phase, may_load_piece, may_store_piece};
 ghost use Rattle.dsm_node.specs.Holds.{held_of};
 ghost use Rattle.dsm_node.specs.Barriers.{counts_of};
 

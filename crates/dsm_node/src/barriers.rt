@@ -1,6 +1,6 @@
 //! How often the thread has come to each barrier, and crossed it.
 
-ghost use Rattle.std.specs.Prelude.{◌≡◌, ◌<◌, ℕ, length, IfOk, OnOk};
+ghost use Rattle.std.specs.Prelude.{◌≡◌, ◌<◌, length, IfOk, OnOk};
 ghost use Rattle.dsm_base.specs.Plain.{arrived_after, crossed_after};
 ghost use Rattle.dsm_node.specs.Barriers.{counts_of, PassesBarriers};
 

@@ -1,7 +1,7 @@
 //! The own copy of the cells.
 
-ghost use Rattle.std.specs.Prelude.{◌≡◌, ◌<◌, ℕ, ℤ, pos, length, map, replicate, IfOk};
-ghost use Rattle.std.specs.List.{AllByRecursion, All};
+ghost use Rattle.std.specs.Prelude.{◌≡◌, ◌<◌, pos, length, map, IfOk};
+ghost use Rattle.std.specs.List.{All};
 ghost use Rattle.dsm_base.specs.declared.label.Label.{Label};
 ghost use Rattle.dsm_trace.specs.Locks.{values_of};
 ghost use Rattle.dsm_trace.specs.Processor.{overlaid, copy_after};

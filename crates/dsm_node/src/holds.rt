@@ -1,6 +1,6 @@
 //! How the locks are held, and the versions that the own copy has.
 
-ghost use Rattle.std.specs.Prelude.{◌≡◌, ◌<◌, ℕ, None, length, IfOk, OnOk};
+ghost use Rattle.std.specs.Prelude.{◌≡◌, ◌<◌, None, length, IfOk, OnOk};
 ghost use Rattle.dsm_base.specs.Plain.{held_after};
 ghost use Rattle.dsm_trace.specs.Processor.{own_versions_after};
 ghost use Rattle.dsm_node.specs.Holds.{held_of, versions_of, TakesLocks};

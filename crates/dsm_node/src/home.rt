@@ -1,6 +1,6 @@
 //! The locks that the processor is home of.
 
-ghost use Rattle.std.specs.Prelude.{◌≡◌, ◌<◌, ◌++◌, ℕ, pos, not, length, map, filter, IfOk, OnOk};
+ghost use Rattle.std.specs.Prelude.{◌≡◌, ◌<◌, ◌++◌, pos, not, map, filter, IfOk, OnOk};
 ghost use Rattle.dsm_base.specs.Family.{update};
 ghost use Rattle.dsm_trace.specs.Locks.{granted_by_ask, asked, granted_by_give, given, start_lock, values_of};
 ghost use Rattle.dsm_trace.specs.Effects.{own_grant, grant_message, is_of};

@@ -1,7 +1,7 @@
 //! Where the cells are bound: the piece of each cell, and the cells of each lock.
 
 ghost use Rattle.std.specs.Prelude.{◌≡◌, ◌<◌, ◌++◌, ℕ, [], None, length, slice_index_or, vec_len, OnOk, IfOk, if◌then◌else◌, Some, replicate};
-ghost use Rattle.dsm_base.specs.Access.{has_cell, piece_of};
+ghost use Rattle.dsm_base.specs.Access.{has_cell};
 ghost use Rattle.dsm_base.specs.declared.setup.Setup.{Setup};
 ghost use Rattle.dsm_trace.specs.Locks.{is_of_lock};
 ghost use Rattle.dsm_node.specs.Layout.{HasPieces, HasCells, one_if};

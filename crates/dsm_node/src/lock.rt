@@ -1,7 +1,7 @@
 //! Asks and gives of one lock at its home.
 
 ghost use Rattle.std.specs.Prelude.{◌≡◌, IfOk, OnOk, ◌++◌, map};
-ghost use Rattle.dsm_trace.specs.Locks.{is_compatible, holder_of, is_granted, granted_by_ask, asked, front_of, behind_front, without_holder, granted_by_give, given, start_lock};
+ghost use Rattle.dsm_trace.specs.Locks.{is_compatible, holder_of, granted_by_ask, asked, front_of, behind_front, without_holder, granted_by_give, given};
 
 use dsm_base::{MemFault, Mode, Proc};
 use dsm_trace::{CellValues, Holder, Holders, LockState, Queue, Waiting};

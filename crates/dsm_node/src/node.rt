@@ -1,20 +1,18 @@
 //! The processor.
 
-ghost use Rattle.std.specs.Prelude.{◌≡◌, ◌+◌, ◌<◌, ℕ, None, Some, IfOk, IfSome, IsSomeAnd, OnOk};
-ghost use Rattle.std.specs.List.{All};
+ghost use Rattle.std.specs.Prelude.{◌≡◌, ◌<◌, None, IfOk};
 
 mod effects;
 mod turn;
 
-use crate::access::{may_load, may_store};
-use crate::barriers::{change_arrived, change_crossed, zero_counts};
-use crate::copy::{Values, change_copy, read_cells, zero_copy};
-use crate::holds::{Modes, Numbers, change_held, change_versions, mode_at, nothing_held};
+use crate::barriers::zero_counts;
+use crate::copy::{Values, zero_copy};
+use crate::holds::{Modes, Numbers, nothing_held};
 use crate::home::Home;
 use crate::layout::{Cells, Pieces, cells_of, pieces_of};
 use crate::mailbox::Mailbox;
-use dsm_base::{Ending, Fault, Label, Lock, MemFault, Mode, Proc, Setup, Task, Text, Want};
-use dsm_trace::{Body, Carry, CellValues, MailGrant, Msg, Sends, Waiting};
+use dsm_base::{Ending, Label, MemFault, Proc, Setup, Task};
+use dsm_trace::{CellValues, Sends};
 use sqlite_items::Items;
 use std::alloc::Global;
 use std::rc::Rc;

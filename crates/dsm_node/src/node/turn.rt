@@ -1,6 +1,6 @@
 //! The turn of a processor.
 
-ghost use Rattle.std.specs.Prelude.{◌≡◌, ◌+◌, ◌<◌, ℕ, Some, IfOk, IfSome, IsSomeAnd, OnOk};
+ghost use Rattle.std.specs.Prelude.{◌≡◌, ◌+◌, ◌<◌, Some, IfOk, IfSome, IsSomeAnd, OnOk};
 ghost use Rattle.std.specs.List.{All};
 ghost use Rattle.dsm_base.specs.declared.label.Want.{Want};
 ghost use Rattle.dsm_trace.specs.Processor.{ending_after};
@@ -11,8 +11,8 @@ use crate::access::{may_load, may_store};
 use crate::barriers::{change_arrived, change_crossed};
 use crate::copy::{change_copy, read_cells};
 use crate::holds::{change_held, change_versions, mode_at};
-use dsm_base::{Cell, Ending, Fault, Label, Lock, MemFault, Mode, Proc, Task, Text, Want};
-use dsm_trace::{Body, Carry, CellValues, Msg, Sends};
+use dsm_base::{Cell, Ending, Fault, Label, Lock, MemFault, Mode, Task, Text, Want};
+use dsm_trace::{Body, CellValues};
 use sqlite_items::Items;
 
 /// How a thread came to be over.
@@ -40,7 +40,6 @@ fn finish<T: Task>(task: &mut T, label: &Label)
 
 impl<T: Task> Node<T> {
     ghost use Rattle.dsm_base.specs.Access.{may_load, may_store};
-    ghost use Rattle.dsm_base.specs.Plain.{label_of};
     ghost use Rattle.dsm_base.specs.Threads.{Names};
     ghost use Rattle.dsm_trace.specs.Processor.{grant_for, brought, mail_after, processor_after, own_turn};
     ghost use Rattle.dsm_trace.specs.Effects.{release_of, body_of};
