@@ -1,1 +1,4 @@
+pub mod Numbered
+pub mod Units
+pub mod Deeds
 pub mod Example
