@@ -1,0 +1,9 @@
+pub mod Families
+pub mod Copy
+pub mod Holds
+pub mod Barriers
+pub mod Mailbox
+pub mod Layout
+pub mod Home
+pub mod Names
+pub mod Node
