@@ -1,7 +1,7 @@
 -- Where a comment ends that has begun: what the code finds is the grammar's.
-use Rattle.std.proofs.Common.{◌≡◌, ◌≢◌, ℕ, zero, suc, ◌+◌, ◌<◌, ◌≤◌, ◌⊎◌, inl, inr, Bool, true, false, cond, List, [], ◌∷◌, ◌++◌, length, refl, sym, ap, ◌∙◌, subst, arith, append_assoc}
+use Rattle.std.proofs.Common.{◌≡◌, ℕ, suc, ◌+◌, ◌<◌, ◌≤◌, ◌⊎◌, inl, inr, Bool, true, false, cond, List, [], ◌∷◌, ◌++◌, length, refl, ap, ◌∙◌, arith}
 use Rattle.std.specs.Prelude.{not, ◌&&◌, ◌==◌, nat_lt}
-use Rattle.std.proofs.lemmas.Bool.{cond-true, cond-false, ltb-true, ltb-false, lt-ltb, le-ltb, eqb-true, eqb-false, eq-eqb, ne_eqb, and_parts, and_cases, not-true, not-false}
+use Rattle.std.proofs.lemmas.Bool.{cond-false, ltb-true, ltb-false, lt-ltb, le-ltb, eqb-true, eq-eqb, and_parts}
 use Rattle.dsm_syntax.specs.declared.front.Closing.{Closing}
 use Rattle.dsm_syntax.specs.declared.front.Closing.TheVariants as c
 use Rattle.dsm_syntax.specs.Pieces.{IsOpen}

@@ -1,12 +1,12 @@
 -- A text whose end leaves something open goes on to be right.
-use Rattle.std.proofs.Common.{◌≡◌, ℕ, ◌+◌, ◌<◌, ◌≤◌, ◌⊎◌, inl, inr, Bool, true, false, List, [], ◌∷◌, ◌++◌, length, refl, sym, ap, arith, lit<, length-append}
-use Rattle.std.specs.Prelude.{◌&&◌, ◌==◌}
+use Rattle.std.proofs.Common.{◌≡◌, ℕ, ◌+◌, ◌<◌, ◌≤◌, inl, inr, Bool, false, List, [], ◌∷◌, ◌++◌, length, refl, sym, ap, arith, lit<, length-append}
+use Rattle.std.specs.Prelude.{◌==◌}
 use Rattle.std.proofs.lemmas.Bool.{and_right}
 use Rattle.std.proofs.lemmas.List.{append-nil}
 use Rattle.dsm_syntax.specs.declared.token.Token.{Token}
 use Rattle.dsm_syntax.specs.declared.token.TokenKind.TheVariants as kind
 use Rattle.dsm_syntax.specs.Bytes.{lines_in}
-use Rattle.dsm_syntax.specs.Pieces.{Piece, blank, line_comment, block_comment, token, IsOpen, IsPiece, Ends}
+use Rattle.dsm_syntax.specs.Pieces.{Piece, line_comment, block_comment, token, IsOpen, IsPiece, Ends}
 use Rattle.dsm_syntax.specs.Faults.{IsOpenString, IsOpenComment}
 use Rattle.dsm_syntax.specs.Texts.{Item, written, token_of, tokens_of, IsCut, IsLexed}
 use Rattle.dsm_syntax.specs.Ends.{IsOpenEnd, EndsOpen}
@@ -28,12 +28,15 @@ Completed text = (more : List ℕ) × (tokens : List Token) × IsLexed (text ++ 
 -- the rest and what comes next are one piece
 by_piece : (text : List ℕ) (items : List Item) (rest more : List ℕ) (p : Piece) → length text + 2 ≤ 262144 → 1 ≤ length more → length more ≤ 2 → 1 ≤ length rest → IsCut text items rest → IsPiece p (rest ++ more) → Ends p (rest ++ more) []
     → length (tokens_of 0 1 items) + length (token_of (length (written items)) (1 + lines_in (written items)) (record { piece = p; bytes = rest ++ more })) ≤ 65536 → Completed text
-by_piece text items rest more p room some few some_rest c t e n =
-    (more, tokens_of 0 1 (items ++ item ∷ []), record {
-      short = omega (arith, length-append text more);
-      spelled = (items ++ item ∷ [], cut_more (text ++ more) items item (rest ++ more) [] (cut_on text items rest more some_rest c) (sym (append-nil (rest ++ more))) t e, refl);
-      few = omega (arith, ap length (tokens_more items item), length-append (tokens_of 0 1 items) (token_of (length (written items)) (1 + lines_in (written items)) item), n);
-    })
+by_piece text items rest more p room some few some_rest c t e n = (
+  more,
+  tokens_of 0 1 (items ++ item ∷ []),
+  record {
+    short = omega (arith, length-append text more);
+    spelled = (items ++ item ∷ [], cut_more (text ++ more) items item (rest ++ more) [] (cut_on text items rest more some_rest c) (sym (append-nil (rest ++ more))) t e, refl);
+    few = omega (arith, ap length (tokens_more items item), length-append (tokens_of 0 1 items) (token_of (length (written items)) (1 + lines_in (written items)) item), n);
+  },
+)
   where
     item : Item
     item = record { piece = p; bytes = rest ++ more }

@@ -6,8 +6,6 @@ use Rattle.std.proofs.lemmas.Bool.{cases_lt, cases_eq}
 use Rattle.std.proofs.lemmas.Bool.Decides.{nat_tests}
 use Rattle.std.proofs.lemmas.List.{append-nil}
 use Rattle.dsm_syntax.specs.declared.errors.ProgErr.{ProgErr}
-use Rattle.dsm_syntax.specs.declared.errors.ProgErr.TheVariants as err
-use Rattle.dsm_syntax.specs.declared.errors.Which.TheVariants as which
 use Rattle.dsm_syntax.specs.declared.sign.Sign.{Sign}
 use Rattle.dsm_syntax.specs.declared.sign.Sign.TheVariants as sign
 use Rattle.dsm_syntax.specs.declared.token.TokenKind.{TokenKind}
@@ -15,10 +13,10 @@ use Rattle.dsm_syntax.specs.declared.token.TokenKind.TheVariants as kind
 use Rattle.dsm_syntax.specs.Bytes.{is_letter, is_blank, lines_in}
 use Rattle.dsm_syntax.specs.Signs.{sign_text}
 use Rattle.dsm_syntax.specs.Words.{word_text}
-use Rattle.dsm_syntax.specs.Pieces.{Piece, blank, line_comment, block_comment, token, IsName, IsNumber, BeginsComment, IsToken, IsPiece, Ends}
+use Rattle.dsm_syntax.specs.Pieces.{Piece, blank, line_comment, block_comment, token, IsName, IsNumber, BeginsComment, IsToken, Ends}
 use Rattle.dsm_syntax.specs.Faults.{IsFault, IsOpenString, IsOpenComment}
 use Rattle.dsm_syntax.specs.Texts.{Item, written, AreItems, token_of, tokens_of, IsCut, IsRefused, long_text, fault, many_tokens}
-use Rattle.dsm_syntax.specs.Ends.{IsOpenEnd, EndsOpen}
+use Rattle.dsm_syntax.specs.Ends.{EndsOpen}
 use Rattle.dsm_syntax.proofs.Classes.{letter_not_blank, digit_not_blank}
 use Rattle.dsm_syntax.proofs.Tables.{begins_sign, each_sign, word_is_name}
 use Rattle.dsm_syntax.proofs.Readings.{digits_of}
