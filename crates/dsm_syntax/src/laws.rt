@@ -1,11 +1,11 @@
 //! Laws of the grammar of tokens. Each is proved of all texts, and calls nothing.
 
-ghost use Rattle.std.specs.Prelude.{◌≡◌, ◌≤◌, ◌+◌, ◌⊎◌, ◌++◌, ℕ, List, length};
+ghost use Rattle.std.specs.Prelude.{◌≡◌, ◌⊎◌, ◌++◌, ℕ, List};
 ghost use Rattle.dsm_syntax.specs.declared.errors.ProgErr.{ProgErr};
 ghost use Rattle.dsm_syntax.specs.declared.token.Token.{Token};
 ghost use Rattle.dsm_syntax.specs.Texts.{Spells, IsLexed, IsRefused};
 ghost use Rattle.dsm_syntax.specs.Places.{AreInPlace, joined};
-ghost use Rattle.dsm_syntax.specs.Ends.{EndsOpen};
+ghost use Rattle.dsm_syntax.specs.OpenEnds.{EndsOpen};
 
 /// No text has two lists of tokens.
 pub fn one_list_of_tokens()
@@ -31,11 +31,11 @@ pub fn tokens_in_place()
         Spells tokens text → joined text 0 tokens ≡ text }
 {}
 
-/// A refused text is refused however it goes on, unless its end leaves a string, a comment or a slash
-/// open. Such a text goes on to be right, where there is room for two more bytes.
+/// A refused text is refused however it goes on, unless its end alone is at fault: it leaves a string,
+/// a comment or a slash open. With what is missing there it is right.
 pub fn refused_for_good()
     ensures refused { (text more : List ℕ) (e : ProgErr) →
-        IsRefused text e → ¬ EndsOpen text → (f : ProgErr) × IsRefused (text ++ more) f }
-    ensures completed { (text : List ℕ) →
-        EndsOpen text → length text + 2 ≤ 262144 → (more : List ℕ) × (tokens : List Token) × IsLexed (text ++ more) tokens }
+        IsRefused text e → ((missing : List ℕ) → ¬ EndsOpen text missing) → (f : ProgErr) × IsRefused (text ++ more) f }
+    ensures completed { (text missing : List ℕ) →
+        EndsOpen text missing → (tokens : List Token) × IsLexed (text ++ missing) tokens }
 {}
