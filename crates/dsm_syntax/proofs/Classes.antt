@@ -1,11 +1,10 @@
 -- Classes of bytes, and the front of a text that is of a class.
-use Rattle.std.proofs.Common.{◌≡◌, ◌≢◌, ℕ, zero, suc, ◌+◌, ◌<◌, ◌≤◌, Bool, true, false, cond, List, [], ◌∷◌, ◌++◌, length, take, drop, refl, sym, ap, ◌∙◌, subst, arith, slice_index}
-use Rattle.std.specs.Prelude.{not, ◌||◌, ◌&&◌, ◌==◌, nat_lt, nat_le}
-use Rattle.std.specs.Char.{is_ascii_digit, is_ascii_alphabetic}
+use Rattle.std.proofs.Common.{◌≡◌, ℕ, ◌<◌, ◌≤◌, Bool, true, false, List, [], ◌∷◌, ◌++◌, length, take, refl, sym, ap, ◌∙◌, arith, slice_index}
+use Rattle.std.specs.Char.{is_ascii_digit}
 use Rattle.std.specs.List.{prefix_len}
 use Rattle.std.proofs.lemmas.Bool.Decides.{nat_tests}
 use Rattle.std.proofs.lemmas.List.{take_at}
-use Rattle.dsm_syntax.specs.Bytes.{is_letter, is_name_byte, is_blank, is_string_byte, is_line_byte}
+use Rattle.dsm_syntax.specs.Bytes.{is_letter, is_name_byte, is_blank, is_line_byte}
 use Rattle.dsm_syntax.specs.Pieces.{AllAre, Stops}
 
 pub letter_not_blank : (b : ℕ) → is_letter b ≡ true → is_blank b ≡ false

@@ -1,7 +1,7 @@
 -- Where a comment ends that has begun: what the code finds is the grammar's.
-use Rattle.std.proofs.Common.{◌≡◌, ◌≢◌, ℕ, zero, suc, ◌+◌, ◌<◌, ◌≤◌, ◌⊎◌, inl, inr, Bool, true, false, cond, List, [], ◌∷◌, ◌++◌, length, refl, sym, ap, ◌∙◌, subst, arith, append_assoc}
+use Rattle.std.proofs.Common.{◌≡◌, ℕ, suc, ◌+◌, ◌<◌, ◌≤◌, ◌⊎◌, inl, inr, Bool, true, false, cond, List, [], ◌∷◌, ◌++◌, length, refl, ap, ◌∙◌, arith}
 use Rattle.std.specs.Prelude.{not, ◌&&◌, ◌==◌, nat_lt}
-use Rattle.std.proofs.lemmas.Bool.{cond-true, cond-false, ltb-true, ltb-false, lt-ltb, le-ltb, eqb-true, eqb-false, eq-eqb, ne_eqb, and_parts, and_cases, not-true, not-false}
+use Rattle.std.proofs.lemmas.Bool.{cond-false, ltb-true, ltb-false, lt-ltb, le-ltb, eqb-true, eq-eqb, and_parts}
 use Rattle.dsm_syntax.specs.declared.front.Closing.{Closing}
 use Rattle.dsm_syntax.specs.declared.front.Closing.TheVariants as c
 use Rattle.dsm_syntax.specs.Pieces.{IsOpen}
@@ -126,3 +126,8 @@ before_star (b ∷ w) star h = of (before_star w (b == 42) h)
     of : ((w ≡ []) × ((b == 42) ≡ true)) ⊎ ((held : List ℕ) × (w ≡ held ++ 42 ∷ [])) → ((b ∷ w ≡ []) × (star ≡ true)) ⊎ ((held : List ℕ) × (b ∷ w ≡ held ++ 42 ∷ []))
     of (inl e) = inr ([], ap (λ t. b ∷ t) e.0 ∙ ap (λ n. n ∷ []) (eqb-true b 42 e.1))
     of (inr e) = inr (b ∷ e.0, ap (λ t. b ∷ t) e.1)
+
+-- one byte more
+pub goes_more : (w : List ℕ) (star : Bool) (c : ℕ) → Goes star w → c < 128 → (ends_with_star star w && c == 47) ≡ false → Goes star (w ++ c ∷ [])
+goes_more [] star c h l e = (l, e, tt)
+goes_more (b ∷ w) star c h l e = (h.0, h.1, goes_more w (b == 42) c h.2 l e)

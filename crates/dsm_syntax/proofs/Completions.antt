@@ -1,57 +1,41 @@
 -- A text whose end leaves something open goes on to be right.
-use Rattle.std.proofs.Common.{◌≡◌, ℕ, ◌+◌, ◌<◌, ◌≤◌, ◌⊎◌, inl, inr, Bool, true, false, List, [], ◌∷◌, ◌++◌, length, refl, sym, ap, arith, lit<, length-append}
-use Rattle.std.specs.Prelude.{◌&&◌, ◌==◌}
+use Rattle.std.proofs.Common.{ℕ, ◌+◌, ◌≤◌, false, List, [], ◌∷◌, ◌++◌, length, refl, sym, ap, ◌∙◌, arith, lit<, append_assoc, length-append}
 use Rattle.std.proofs.lemmas.Bool.{and_right}
 use Rattle.std.proofs.lemmas.List.{append-nil}
 use Rattle.dsm_syntax.specs.declared.token.Token.{Token}
 use Rattle.dsm_syntax.specs.declared.token.TokenKind.TheVariants as kind
 use Rattle.dsm_syntax.specs.Bytes.{lines_in}
-use Rattle.dsm_syntax.specs.Pieces.{Piece, blank, line_comment, block_comment, token, IsOpen, IsPiece, Ends}
-use Rattle.dsm_syntax.specs.Faults.{IsOpenString, IsOpenComment}
+use Rattle.dsm_syntax.specs.Pieces.{Piece, line_comment, block_comment, token, IsOpen, IsPiece, Ends}
 use Rattle.dsm_syntax.specs.Texts.{Item, written, token_of, tokens_of, IsCut, IsLexed}
-use Rattle.dsm_syntax.specs.Ends.{IsOpenEnd, EndsOpen}
-use Rattle.dsm_syntax.proofs.Closings.{Goes, goes, open_of}
+use Rattle.dsm_syntax.specs.OpenEnds.{IsOpenEnd, EndsOpen, string, comment, star, slash}
+use Rattle.dsm_syntax.proofs.Closings.{ends_with_star, goes, goes_more, open_of}
 use Rattle.dsm_syntax.proofs.Cuts.{cut_more, tokens_more}
 use Rattle.dsm_syntax.proofs.Continuations.{cut_on}
 
-goes_star : (w : List ℕ) (star : Bool) → Goes star w → Goes star (w ++ 42 ∷ [])
-goes_star [] star h = (lit< tt, and_right star false refl, tt)
-goes_star (b ∷ w) star h = (h.0, h.1, goes_star w (b == 42) h.2)
-
 -- a comment may hold one more star
 one_more_star : (w : List ℕ) → IsOpen w → IsOpen (w ++ 42 ∷ [])
-one_more_star w h = open_of (w ++ 42 ∷ []) (goes_star w false (goes w h))
+one_more_star w h = open_of (w ++ 42 ∷ []) (goes_more w false 42 (goes w h) (lit< tt) (and_right (ends_with_star false w) false refl))
 
-abbrev Completed : List ℕ → Type 0
-Completed text = (more : List ℕ) × (tokens : List Token) × IsLexed (text ++ more) tokens
-
--- the rest and what comes next are one piece
-by_piece : (text : List ℕ) (items : List Item) (rest more : List ℕ) (p : Piece) → length text + 2 ≤ 262144 → 1 ≤ length more → length more ≤ 2 → 1 ≤ length rest → IsCut text items rest → IsPiece p (rest ++ more) → Ends p (rest ++ more) []
-    → length (tokens_of 0 1 items) + length (token_of (length (written items)) (1 + lines_in (written items)) (record { piece = p; bytes = rest ++ more })) ≤ 65536 → Completed text
-by_piece text items rest more p room some few some_rest c t e n =
-    (more, tokens_of 0 1 (items ++ item ∷ []), record {
-      short = omega (arith, length-append text more);
-      spelled = (items ++ item ∷ [], cut_more (text ++ more) items item (rest ++ more) [] (cut_on text items rest more some_rest c) (sym (append-nil (rest ++ more))) t e, refl);
-      few = omega (arith, ap length (tokens_more items item), length-append (tokens_of 0 1 items) (token_of (length (written items)) (1 + lines_in (written items)) item), n);
-    })
+-- the rest and what is missing are one piece
+by_piece : (text : List ℕ) (items : List Item) (rest missing : List ℕ) (p : Piece) → length text + length missing ≤ 262144 → 1 ≤ length rest → IsCut text items rest → IsPiece p (rest ++ missing) → Ends p (rest ++ missing) []
+    → length (tokens_of 0 1 items) + length (token_of (length (written items)) (1 + lines_in (written items)) (record { piece = p; bytes = rest ++ missing })) ≤ 65536 → (tokens : List Token) × IsLexed (text ++ missing) tokens
+by_piece text items rest missing p room some c t e n = (
+  tokens_of 0 1 (items ++ item ∷ []),
+  record {
+    short = omega (arith, length-append text missing);
+    spelled = (items ++ item ∷ [], cut_more (text ++ missing) items item (rest ++ missing) [] (cut_on text items rest missing some c) (sym (append-nil (rest ++ missing))) t e, refl);
+    few = omega (arith, ap length (tokens_more items item), length-append (tokens_of 0 1 items) (token_of (length (written items)) (1 + lines_in (written items)) item), n);
+  },
+)
   where
     item : Item
-    item = record { piece = p; bytes = rest ++ more }
+    item = record { piece = p; bytes = rest ++ missing }
 
-pub completed : (text : List ℕ) → EndsOpen text → length text + 2 ≤ 262144 → (more : List ℕ) × (tokens : List Token) × IsLexed (text ++ more) tokens
-completed text h room = of h.end
-  where
-    string : length (tokens_of 0 1 h.items) < 65536 → IsOpenString h.rest → Completed text
-    string few o = by_piece text h.items h.rest (34 ∷ []) (token (kind.Str o.0)) room (omega arith) (omega arith) (omega (arith, ap length o.1)) h.cut (ap (λ t. t ++ 34 ∷ []) o.1, o.2) tt (omega arith)
+of_end : (text missing : List ℕ) (items : List Item) (rest : List ℕ) → IsCut text items rest → length (tokens_of 0 1 items) ≤ 65536 → length text + length missing ≤ 262144 → IsOpenEnd (length (tokens_of 0 1 items)) rest missing → (tokens : List Token) × IsLexed (text ++ missing) tokens
+of_end text _ items rest c n room (string few o) = by_piece text items rest (34 ∷ []) (token (kind.Str o.0)) room (omega (arith, ap length o.1)) c (ap (λ t. t ++ 34 ∷ []) o.1, o.2) tt (omega arith)
+of_end text _ items rest c n room (comment o) = by_piece text items rest (42 ∷ 47 ∷ []) block_comment room (omega (arith, ap length o.1)) c (o.0, ap (λ t. t ++ 42 ∷ 47 ∷ []) o.1, one_more_star o.0 o.2) tt (omega arith)
+of_end text _ items rest c n room (star held e o) = by_piece text items rest (47 ∷ []) block_comment room (omega (arith, ap length e)) c (held, ap (λ t. t ++ 47 ∷ []) e ∙ ap (λ t. 47 ∷ 42 ∷ t) (append_assoc held (42 ∷ []) (47 ∷ [])), o) tt (omega arith)
+of_end text _ items rest c n room (slash e) = by_piece text items rest (47 ∷ []) line_comment room (omega (arith, ap length e)) c ([], ap (λ t. t ++ 47 ∷ []) e, tt) tt (omega arith)
 
-    comment : IsOpenComment h.rest → Completed text
-    comment o =
-        by_piece text h.items h.rest (42 ∷ 47 ∷ []) block_comment room (omega arith) (omega arith) (omega (arith, ap length o.1)) h.cut (o.0, ap (λ t. t ++ 42 ∷ 47 ∷ []) o.1, one_more_star o.0 o.2) tt (let x = h.few in omega arith)
-
-    slash : h.rest ≡ 47 ∷ [] → Completed text
-    slash e = by_piece text h.items h.rest (47 ∷ []) line_comment room (omega arith) (omega arith) (omega (arith, ap length e)) h.cut ([], ap (λ t. t ++ 47 ∷ []) e, tt) tt (let x = h.few in omega arith)
-
-    of : IsOpenEnd (length (tokens_of 0 1 h.items)) h.rest → Completed text
-    of (inl o) = string o.0 o.1
-    of (inr (inl o)) = comment o
-    of (inr (inr e)) = slash e
+pub completed : (text missing : List ℕ) → EndsOpen text missing → (tokens : List Token) × IsLexed (text ++ missing) tokens
+completed text missing h = of_end text missing h.items h.rest h.cut h.few h.room h.end

@@ -1,29 +1,24 @@
 -- Refused texts that go on.
-use Rattle.std.proofs.Common.{◌≡◌, ◌≢◌, ℕ, zero, suc, ◌+◌, ◌-◌, ◌*◌, ◌<◌, ◌≤◌, ◌⊎◌, inl, inr, Bool, true, false, List, [], ◌∷◌, ◌++◌, length, drop, refl, sym, ap, ◌∙◌, subst, arith, slice_index, append_assoc, length-append}
-use Rattle.std.specs.Prelude.{not, ◌&&◌, ◌||◌, ◌==◌, nat_le, fold}
+use Rattle.std.proofs.Common.{◌≡◌, ℕ, ◌+◌, ◌-◌, ◌*◌, ◌<◌, ◌≤◌, ◌⊎◌, inl, inr, Bool, true, false, List, [], ◌∷◌, ◌++◌, length, drop, refl, sym, ap, ◌∙◌, subst, arith, slice_index, append_assoc, length-append}
+use Rattle.std.specs.Prelude.{fold}
 use Rattle.std.specs.Char.{is_ascii_digit}
-use Rattle.std.proofs.lemmas.Bool.{cases_lt, cases_eq, and_parts, or_cases, eqb-true, eq-eqb, leb-true, not-true}
+use Rattle.std.proofs.lemmas.Bool.{cases_lt}
 use Rattle.std.proofs.lemmas.Bool.Decides.{nat_tests}
 use Rattle.std.proofs.lemmas.Grind.{fold-append}
-use Rattle.std.proofs.lemmas.List.{append-nil, append_cancel_left}
+use Rattle.std.proofs.lemmas.List.{append-nil}
 use Rattle.dsm_syntax.specs.declared.errors.ProgErr.{ProgErr}
 use Rattle.dsm_syntax.specs.declared.errors.ProgErr.TheVariants as err
 use Rattle.dsm_syntax.specs.declared.errors.Which.TheVariants as which
-use Rattle.dsm_syntax.specs.declared.sign.Sign.{Sign}
-use Rattle.dsm_syntax.specs.declared.sign.Sign.TheVariants as sign
-use Rattle.dsm_syntax.specs.declared.token.TokenKind.{TokenKind}
 use Rattle.dsm_syntax.specs.declared.token.TokenKind.TheVariants as kind
-use Rattle.dsm_syntax.specs.Bytes.{is_letter, is_name_byte, is_blank, is_string_byte, is_line_byte, lines_in}
+use Rattle.dsm_syntax.specs.Bytes.{is_name_byte, is_blank, lines_in}
 use Rattle.dsm_syntax.specs.Signs.{sign_text}
-use Rattle.dsm_syntax.specs.Words.{word_text}
-use Rattle.dsm_syntax.specs.Pieces.{Piece, blank, line_comment, block_comment, token, AllAre, Stops, IsName, IsNumber, IsLongestSign, BeginsComment, IsToken, IsPiece, EndsToken, Ends, decimal}
+use Rattle.dsm_syntax.specs.Pieces.{Piece, blank, line_comment, block_comment, token, AllAre, Stops, IsName, IsNumber, IsLongestSign, BeginsComment, IsPiece, Ends, decimal}
 use Rattle.dsm_syntax.specs.Faults.{IsOpenString, IsOpenComment, IsFault, stray, glued, broken_string, open_string, byte_in_line, byte_in_block, open_comment, too_large, too_long}
-use Rattle.dsm_syntax.specs.Texts.{Item, written, AreItems, token_of, tokens_of, IsCut, IsRefused, long_text, fault, many_tokens}
-use Rattle.dsm_syntax.specs.Ends.{IsOpenEnd, EndsOpen}
-use Rattle.dsm_syntax.proofs.Classes.{letter_not_blank, digit_not_blank, name_byte_is_letter, Split, split, all_append}
-use Rattle.dsm_syntax.proofs.Tables.{begins_sign, each_sign, front_of_sign, word_is_name}
-use Rattle.dsm_syntax.proofs.Decisions.{PieceAt, Decided, decided}
-use Rattle.dsm_syntax.proofs.Cuts.{cut_more, tokens_more, some_bytes, some_rest, written-append}
+use Rattle.dsm_syntax.specs.Texts.{Item, written, AreItems, token_of, tokens_of, IsCut, IsRefused, fault, many_tokens}
+use Rattle.dsm_syntax.proofs.Classes.{name_byte_is_letter, Split, split, all_append}
+use Rattle.dsm_syntax.proofs.Tables.{front_of_sign}
+use Rattle.dsm_syntax.proofs.Decisions.{Decided, decided}
+use Rattle.dsm_syntax.proofs.Cuts.{cut_more, tokens_more, some_bytes}
 
 -- ---- what follows a piece that something follows
 

@@ -1,14 +1,9 @@
 -- Texts that are cut into items: one way to cut them, and one more item at a time.
-use Rattle.std.proofs.Common.{◌≡◌, ◌≢◌, ℕ, zero, suc, ◌+◌, ◌<◌, ◌≤◌, ◌⊎◌, inl, inr, true, List, [], ◌∷◌, ◌++◌, length, take, drop, Result, Ok, Err, refl, sym, ap, ◌∙◌, subst, arith, append_assoc, length-append, length-drop}
-use Rattle.std.specs.Prelude.{◌==◌, IfOk}
-use Rattle.std.proofs.lemmas.List.{append-nil, take_at, drop_at, drop-drop}
+use Rattle.std.proofs.Common.{◌≡◌, ℕ, ◌+◌, ◌≤◌, ◌⊎◌, inl, inr, true, List, [], ◌∷◌, ◌++◌, length, refl, sym, ap, ◌∙◌, subst, arith, append_assoc, length-append}
+use Rattle.std.proofs.lemmas.List.{append-nil}
 use Rattle.std.proofs.lemmas.List.Concat.{flat_map-append}
 use Rattle.std.proofs.lemmas.List.Sums.{sum_by-append}
 use Rattle.dsm_syntax.specs.declared.errors.ProgErr.{ProgErr}
-use Rattle.dsm_syntax.specs.declared.front.Front.{Front}
-use Rattle.dsm_syntax.specs.declared.front.Shape.{Shape}
-use Rattle.dsm_syntax.specs.declared.front.Shape.TheVariants as s
-use Rattle.dsm_syntax.specs.declared.token.Token.{Token}
 use Rattle.dsm_syntax.specs.declared.token.TokenKind.TheVariants as kind
 use Rattle.dsm_syntax.specs.Bytes.{lines_in}
 use Rattle.dsm_syntax.specs.Signs.{sign_text}
@@ -17,9 +12,8 @@ use Rattle.dsm_syntax.specs.Pieces.{Piece, blank, line_comment, block_comment, t
 use Rattle.dsm_syntax.specs.Faults.{IsFault, stray, glued, broken_string, open_string, byte_in_line, byte_in_block, open_comment, too_large, too_long}
 use Rattle.dsm_syntax.specs.Texts.{Item, written, AreItems, token_of, tokens_of, IsCut}
 use Rattle.dsm_syntax.proofs.Tables.{begins_sign, each_sign, word_is_name}
-use Rattle.dsm_syntax.specs.Fronts.{front_of, kind_of, listed}
-use Rattle.dsm_syntax.proofs.Readings.{piece_of, some_digits}
-use Rattle.dsm_syntax.proofs.Decisions.{Stands, IsRead, read, one_piece, not_both}
+use Rattle.dsm_syntax.proofs.Readings.{some_digits}
+use Rattle.dsm_syntax.proofs.Decisions.{one_piece, not_both}
 
 -- ---- joining
 

@@ -1,8 +1,7 @@
 -- At the front of each text that isn't empty stands one piece, or one fault.
-use Rattle.std.proofs.Common.{◌≡◌, ◌≢◌, ℕ, zero, suc, ◌+◌, ◌-◌, ◌<◌, ◌≤◌, ◌⊎◌, inl, inr, pos, Bool, true, false, cond, List, [], ◌∷◌, ◌++◌, length, Option, Some, None, Result, Ok, Err, refl, sym, ap, ◌∙◌, subst, arith, slice_index, append_assoc, length-append}
-use Rattle.std.specs.Prelude.{◌==◌, nat_lt, nat_le}
+use Rattle.std.proofs.Common.{◌≡◌, ℕ, ◌<◌, ◌≤◌, ◌⊎◌, inl, inr, pos, Bool, true, false, List, [], ◌∷◌, ◌++◌, length, Option, Some, None, Result, Ok, Err, refl, sym, ap, ◌∙◌, subst, append_assoc}
 use Rattle.std.specs.Char.{is_ascii_digit}
-use Rattle.std.proofs.lemmas.Bool.{cases_lt, cases_eq, eqb-true, eqb-false, ltb-true, ltb-false, leb-true, leb-false}
+use Rattle.std.proofs.lemmas.Bool.{cases_lt, cases_eq}
 use Rattle.std.proofs.lemmas.List.{append-nil, append_cancel_left}
 use Rattle.dsm_syntax.specs.declared.errors.ProgErr.{ProgErr}
 use Rattle.dsm_syntax.specs.declared.errors.ProgErr.TheVariants as err
@@ -16,14 +15,13 @@ use Rattle.dsm_syntax.specs.declared.front.Shape.{Shape}
 use Rattle.dsm_syntax.specs.declared.sign.Sign.{Sign}
 use Rattle.dsm_syntax.specs.declared.token.TokenKind.TheVariants as kind
 use Rattle.dsm_syntax.specs.declared.word.Word.{Word}
-use Rattle.dsm_syntax.specs.Bytes.{is_letter, is_name_byte, is_string_byte, is_line_byte}
+use Rattle.dsm_syntax.specs.Bytes.{is_name_byte, is_string_byte, is_line_byte}
 use Rattle.dsm_syntax.specs.Signs.{sign_text}
-use Rattle.dsm_syntax.specs.Words.{word_text}
 use Rattle.dsm_syntax.specs.Pieces.{Piece, blank, line_comment, block_comment, token, AllAre, Stops, IsName, IsNumber, IsOpen, BeginsComment, IsPiece, Ends, decimal}
 use Rattle.dsm_syntax.specs.Faults.{IsFault, stray, glued, broken_string, open_string, byte_in_line, byte_in_block, open_comment, too_large, too_long}
 use Rattle.dsm_syntax.specs.Fronts.{front_of, found, first_word, first_sign, words, signs, closing_of, lead_of}
-use Rattle.dsm_syntax.proofs.Classes.{letter_is_name_byte, name_byte_is_letter, low_is_newline, Split, split, same_front}
-use Rattle.dsm_syntax.proofs.Tables.{FoundSign, sign_found, no_sign_begins, word_found, no_word_found}
+use Rattle.dsm_syntax.proofs.Classes.{name_byte_is_letter, low_is_newline, split, same_front}
+use Rattle.dsm_syntax.proofs.Tables.{sign_found, no_sign_begins, word_found, no_word_found}
 use Rattle.dsm_syntax.proofs.Closings.{Closes, closes, open_of, before_star}
 use Rattle.dsm_syntax.proofs.Leads.{IsOther, IsLead, leads}
 use Rattle.dsm_syntax.proofs.Readings.{piece_of, complete, refuses}

@@ -1,12 +1,11 @@
 -- What the first bytes of a text begin.
-use Rattle.std.proofs.Common.{◌≡◌, ◌≢◌, ℕ, ◌+◌, ◌<◌, ◌≤◌, ◌⊎◌, inl, inr, Bool, true, false, cond, List, [], ◌∷◌, ◌++◌, length, refl, sym, ap, ◌∙◌, subst, arith, slice_index}
-use Rattle.std.specs.Prelude.{not, ◌&&◌, ◌||◌, ◌==◌, nat_lt}
+use Rattle.std.proofs.Common.{◌≡◌, ◌≢◌, ℕ, ◌<◌, ◌⊎◌, inl, inr, Bool, true, false, cond, List, [], ◌∷◌, refl, ap, ◌∙◌, arith, slice_index}
+use Rattle.std.specs.Prelude.{◌&&◌, ◌==◌}
 use Rattle.std.specs.Char.{is_ascii_digit}
-use Rattle.std.proofs.lemmas.Bool.{cond-true, cond-false, eqb-true, eqb-false, eq-eqb, ne_eqb, and_parts, and_cases, not-true}
-use Rattle.std.proofs.lemmas.Bool.Decides.{nat_tests}
+use Rattle.std.proofs.lemmas.Bool.{eqb-true, eqb-false, eq-eqb, ne_eqb, and_parts}
 use Rattle.dsm_syntax.specs.declared.front.Lead.{Lead}
 use Rattle.dsm_syntax.specs.declared.front.Lead.TheVariants as l
-use Rattle.dsm_syntax.specs.Bytes.{is_letter, is_name_byte, is_blank}
+use Rattle.dsm_syntax.specs.Bytes.{is_letter, is_blank}
 use Rattle.dsm_syntax.specs.Pieces.{BeginsComment}
 use Rattle.dsm_syntax.specs.Fronts.{lead_of}
 use Rattle.dsm_syntax.proofs.Classes.{letter_not_blank, digit_not_blank, digit_not_letter}

@@ -1,5 +1,5 @@
 -- Laws of whole texts.
-use Rattle.std.proofs.Common.{◌≡◌, ◌≢◌, ℕ, zero, suc, ◌+◌, ◌<◌, ◌≤◌, ◌⊎◌, inl, inr, List, [], ◌∷◌, ◌++◌, length, take, drop, Result, Ok, Err, refl, sym, ap, ◌∙◌, subst, arith, append_assoc, length-append}
+use Rattle.std.proofs.Common.{◌≡◌, ℕ, zero, suc, ◌+◌, ◌<◌, ◌≤◌, ◌⊎◌, inl, inr, List, [], ◌∷◌, ◌++◌, length, Result, Ok, Err, refl, sym, ap, ◌∙◌, subst, arith, length-append}
 use Rattle.std.specs.Prelude.{MatchResult}
 use Rattle.std.proofs.lemmas.Bool.{cases_lt}
 use Rattle.std.proofs.lemmas.List.{append-nil}
@@ -7,12 +7,11 @@ use Rattle.dsm_syntax.specs.declared.errors.ProgErr.{ProgErr}
 use Rattle.dsm_syntax.specs.declared.errors.ProgErr.TheVariants as err
 use Rattle.dsm_syntax.specs.declared.errors.Which.TheVariants as which
 use Rattle.dsm_syntax.specs.declared.token.Token.{Token}
-use Rattle.dsm_syntax.specs.declared.token.TokenKind.TheVariants as kind
 use Rattle.dsm_syntax.specs.Bytes.{lines_in}
-use Rattle.dsm_syntax.specs.Pieces.{Piece, blank, line_comment, block_comment, token, IsPiece, Ends}
+use Rattle.dsm_syntax.specs.Pieces.{Piece, blank, line_comment, block_comment, token}
 use Rattle.dsm_syntax.specs.Faults.{IsFault}
-use Rattle.dsm_syntax.specs.Texts.{Item, written, AreItems, token_of, tokens_of, IsCut, Spells, IsLexed, IsRefused, long_text, fault, many_tokens, IsAnswer}
-use Rattle.dsm_syntax.proofs.Decisions.{PieceAt, FaultAt, Decided, decided, one_fault, not_both}
+use Rattle.dsm_syntax.specs.Texts.{Item, written, token_of, tokens_of, IsCut, Spells, IsLexed, IsRefused, long_text, fault, many_tokens, IsAnswer}
+use Rattle.dsm_syntax.proofs.Decisions.{Decided, decided, one_fault}
 use Rattle.dsm_syntax.proofs.Cuts.{GoesOn, compared_cuts, none_left, none_at_fault, more_tokens, some_bytes, some_rest, cut_more, tokens_more}
 
 -- ---- one spelling

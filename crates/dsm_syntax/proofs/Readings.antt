@@ -1,33 +1,30 @@
 -- Each piece and each fault of the grammar is read as such.
-use Rattle.std.proofs.Common.{◌≡◌, ◌≢◌, ℕ, zero, suc, ◌+◌, ◌-◌, ◌<◌, ◌≤◌, ◌⊎◌, inl, inr, pos, Bool, true, false, cond, List, [], ◌∷◌, ◌++◌, length, take, drop, Option, Some, None, Result, Ok, Err, refl, sym, ap, ◌∙◌, subst, arith, slice_index, append_assoc, length-append}
-use Rattle.std.specs.Prelude.{not, ◌&&◌, ◌||◌, ◌==◌, nat_lt, nat_le}
+use Rattle.std.proofs.Common.{◌≡◌, ℕ, ◌+◌, ◌-◌, ◌<◌, ◌≤◌, ◌⊎◌, inl, inr, pos, Bool, true, false, cond, List, [], ◌∷◌, ◌++◌, length, take, Option, Some, None, Result, Err, refl, sym, ap, ◌∙◌, subst, arith, slice_index, append_assoc, length-append}
+use Rattle.std.specs.Prelude.{◌&&◌, ◌||◌, ◌==◌, nat_lt, nat_le}
 use Rattle.std.specs.Char.{is_ascii_digit}
 use Rattle.std.specs.List.{prefix_len}
-use Rattle.std.proofs.lemmas.Bool.{cond-true, cond-false, le-leb, lt-leb, lt-ltb, le-ltb, eq-eqb, ne_eqb, or_left, or_right, or_from, and_from, and_left, and_right}
+use Rattle.std.proofs.lemmas.Bool.{cond-true, cond-false, le-leb, lt-leb, lt-ltb, le-ltb, ne_eqb, or_left, or_right, or_from, and_left, and_right}
 use Rattle.std.proofs.lemmas.Bool.Decides.{nat_tests}
 use Rattle.std.proofs.lemmas.List.{take_at, append-nil}
 use Rattle.dsm_syntax.specs.declared.errors.ProgErr.{ProgErr}
 use Rattle.dsm_syntax.specs.declared.errors.ProgErr.TheVariants as err
 use Rattle.dsm_syntax.specs.declared.errors.Which.TheVariants as which
 use Rattle.dsm_syntax.specs.declared.front.Closing.{Closing}
-use Rattle.dsm_syntax.specs.declared.front.Closing.TheVariants as c
 use Rattle.dsm_syntax.specs.declared.front.Front.{Front}
 use Rattle.dsm_syntax.specs.declared.front.Lead.TheVariants as lead
 use Rattle.dsm_syntax.specs.declared.front.Shape.{Shape}
 use Rattle.dsm_syntax.specs.declared.front.Shape.TheVariants as s
 use Rattle.dsm_syntax.specs.declared.sign.Sign.{Sign}
 use Rattle.dsm_syntax.specs.declared.sign.Sign.TheVariants as sign
-use Rattle.dsm_syntax.specs.declared.token.TokenKind.{TokenKind}
 use Rattle.dsm_syntax.specs.declared.token.TokenKind.TheVariants as kind
 use Rattle.dsm_syntax.specs.declared.word.Word.{Word}
-use Rattle.dsm_syntax.specs.Bytes.{is_letter, is_name_byte, is_blank, is_string_byte, is_line_byte, lines_in}
+use Rattle.dsm_syntax.specs.Bytes.{is_letter, is_name_byte, is_string_byte, is_line_byte, lines_in}
 use Rattle.dsm_syntax.specs.Signs.{sign_text}
 use Rattle.dsm_syntax.specs.Words.{word_text}
-use Rattle.dsm_syntax.specs.Pieces.{Piece, blank, line_comment, block_comment, token, AllAre, Stops, IsName, IsNumber, IsOpen, BeginsComment, IsToken, IsPiece, EndsToken, Ends, IsLongestSign, decimal}
+use Rattle.dsm_syntax.specs.Pieces.{Piece, blank, line_comment, block_comment, token, AllAre, Stops, IsName, IsNumber, IsOpen, BeginsComment, IsToken, IsPiece, Ends, IsLongestSign, decimal}
 use Rattle.dsm_syntax.specs.Faults.{IsStray, IsFault, stray, glued, broken_string, open_string, byte_in_line, byte_in_block, open_comment, too_large, too_long}
-use Rattle.dsm_syntax.specs.Fronts as of
 use Rattle.dsm_syntax.specs.Fronts.{front_of, front_by, found, named, first_word, first_sign, words, signs, closing_of, closed, signed, held_in}
-use Rattle.dsm_syntax.proofs.Classes.{letter_is_name_byte, digit_is_name_byte, letter_not_digit, weaker_stop, no_digit, front_len, after_front, high_is_no_line_byte, newline_is_no_line_byte}
+use Rattle.dsm_syntax.proofs.Classes.{letter_is_name_byte, letter_not_digit, weaker_stop, front_len, after_front, high_is_no_line_byte, newline_is_no_line_byte}
 use Rattle.dsm_syntax.proofs.Tables.{begins_sign, each_sign, sign_reads, none_is_found, word_reads, word_is_name, word_is_short, word_found, no_word_reads}
 use Rattle.dsm_syntax.proofs.Closings.{goes, reads_byte, reads_open, reads_end, star_last}
 use Rattle.dsm_syntax.proofs.Leads.{IsOther, lead_is}

@@ -1,13 +1,11 @@
--- A refused text stays refused however it goes on, unless its end leaves something left_open.
+-- A refused text stays refused however it goes on, unless its end leaves something open.
 use Rattle.std.proofs.Common.{◌≡◌, ◌≢◌, ℕ, zero, suc, ◌+◌, ◌<◌, ◌≤◌, ◌⊎◌, inl, inr, Bool, true, false, List, [], ◌∷◌, ◌++◌, length, refl, sym, ap, ◌∙◌, subst, arith, slice_index, append_assoc, length-append}
 use Rattle.std.specs.Prelude.{not, ◌&&◌, ◌||◌, ◌==◌}
 use Rattle.std.specs.Char.{is_ascii_digit}
-use Rattle.std.proofs.lemmas.Bool.{cases_lt, cases_eq}
+use Rattle.std.proofs.lemmas.Bool.{and_left, cases_lt, cases_eq}
 use Rattle.std.proofs.lemmas.Bool.Decides.{nat_tests}
 use Rattle.std.proofs.lemmas.List.{append-nil}
 use Rattle.dsm_syntax.specs.declared.errors.ProgErr.{ProgErr}
-use Rattle.dsm_syntax.specs.declared.errors.ProgErr.TheVariants as err
-use Rattle.dsm_syntax.specs.declared.errors.Which.TheVariants as which
 use Rattle.dsm_syntax.specs.declared.sign.Sign.{Sign}
 use Rattle.dsm_syntax.specs.declared.sign.Sign.TheVariants as sign
 use Rattle.dsm_syntax.specs.declared.token.TokenKind.{TokenKind}
@@ -15,15 +13,16 @@ use Rattle.dsm_syntax.specs.declared.token.TokenKind.TheVariants as kind
 use Rattle.dsm_syntax.specs.Bytes.{is_letter, is_blank, lines_in}
 use Rattle.dsm_syntax.specs.Signs.{sign_text}
 use Rattle.dsm_syntax.specs.Words.{word_text}
-use Rattle.dsm_syntax.specs.Pieces.{Piece, blank, line_comment, block_comment, token, IsName, IsNumber, BeginsComment, IsToken, IsPiece, Ends}
-use Rattle.dsm_syntax.specs.Faults.{IsFault, IsOpenString, IsOpenComment}
+use Rattle.dsm_syntax.specs.Pieces.{Piece, blank, line_comment, block_comment, token, IsName, IsNumber, IsOpen, BeginsComment, IsToken, Ends}
+use Rattle.dsm_syntax.specs.Faults.{IsFault, IsOpenString, IsOpenComment, byte_in_block, open_comment}
 use Rattle.dsm_syntax.specs.Texts.{Item, written, AreItems, token_of, tokens_of, IsCut, IsRefused, long_text, fault, many_tokens}
-use Rattle.dsm_syntax.specs.Ends.{IsOpenEnd, EndsOpen}
+use Rattle.dsm_syntax.specs.OpenEnds.{IsOpenEnd, EndsOpen, string, comment, star, slash}
 use Rattle.dsm_syntax.proofs.Classes.{letter_not_blank, digit_not_blank}
 use Rattle.dsm_syntax.proofs.Tables.{begins_sign, each_sign, word_is_name}
+use Rattle.dsm_syntax.proofs.Closings.{ends_with_star, goes, goes_more, open_of, before_star}
 use Rattle.dsm_syntax.proofs.Readings.{digits_of}
 use Rattle.dsm_syntax.proofs.Cuts.{some_bytes, some_rest, written-append}
-use Rattle.dsm_syntax.proofs.Continuations.{cut_on, fault_on, refused_at_token}
+use Rattle.dsm_syntax.proofs.Continuations.{FaultOn, cut_on, fault_on, refused_at_token}
 
 -- ---- the last token that is allowed, and the one after it
 
@@ -150,18 +149,22 @@ begins_token (kind.Sign sign) bytes t = subst BeginsToken (sym t) (begins_by_sig
 abbrev Refused : List ℕ → Type 0
 Refused text = (e : ProgErr) × IsRefused text e
 
--- a token that is one too many, at the end of a text
-last_on : (text : List ℕ) (items : List Item) (k : TokenKind) (bytes more : List ℕ) → length (text ++ more) ≤ 262144 → IsCut text items bytes → IsToken k bytes → length (tokens_of 0 1 items) ≡ 65536 → ¬ EndsOpen text → Refused (text ++ more)
-last_on text items k [] more s c t n left_open = absurd (omega (arith, some_bytes (token k) [] t))
-last_on text items k (b ∷ bytes) more s c t n left_open = of ((begins_token k (b ∷ bytes) t).comment more)
-  where
-    of : (¬ BeginsComment (b ∷ (bytes ++ more))) ⊎ (b ∷ bytes ≡ 47 ∷ []) → Refused (text ++ more)
-    of (inl h) = refused_at_token (text ++ more) items b (bytes ++ more) s (cut_on text items (b ∷ bytes) more (omega arith) c) n (begins_token k (b ∷ bytes) t).blank h
-    of (inr h) = absurd (left_open (record { items = items; rest = b ∷ bytes; cut = c; few = omega arith; end = inr (inr h) }))
+-- the text goes on to be refused, or its end leaves something open
+abbrev GoesOn : List ℕ → List ℕ → Type 0
+GoesOn text more = Refused (text ++ more) ⊎ ((missing : List ℕ) × EndsOpen text missing)
 
-many_on : (text : List ℕ) (items : List Item) (rest more : List ℕ) → length (text ++ more) ≤ 262144 → IsCut text items rest → length (tokens_of 0 1 items) ≡ 65537 → ¬ EndsOpen text → Refused (text ++ more)
-many_on text items (b ∷ rest) more s c n left_open = (_, many_tokens items (b ∷ (rest ++ more)) s (cut_on text items (b ∷ rest) more (omega arith) c) n)
-many_on text items [] more s c n left_open = of (nth items 65536 (omega (arith, n, amount_is 0 1 items)))
+-- a token that is one too many, at the end of a text
+last_on : (text : List ℕ) (items : List Item) (k : TokenKind) (bytes more : List ℕ) → 1 ≤ length more → length (text ++ more) ≤ 262144 → IsCut text items bytes → IsToken k bytes → length (tokens_of 0 1 items) ≡ 65536 → GoesOn text more
+last_on text items k [] more l s c t n = absurd (omega (arith, some_bytes (token k) [] t))
+last_on text items k (b ∷ bytes) more l s c t n = of ((begins_token k (b ∷ bytes) t).comment more)
+  where
+    of : (¬ BeginsComment (b ∷ (bytes ++ more))) ⊎ (b ∷ bytes ≡ 47 ∷ []) → GoesOn text more
+    of (inl h) = inl (refused_at_token (text ++ more) items b (bytes ++ more) s (cut_on text items (b ∷ bytes) more (omega arith) c) n (begins_token k (b ∷ bytes) t).blank h)
+    of (inr h) = inr (47 ∷ [], record { items = items; rest = b ∷ bytes; cut = c; few = omega arith; end = slash h; room = omega (arith, length-append text more) })
+
+many_on : (text : List ℕ) (items : List Item) (rest more : List ℕ) → 1 ≤ length more → length (text ++ more) ≤ 262144 → IsCut text items rest → length (tokens_of 0 1 items) ≡ 65537 → GoesOn text more
+many_on text items (b ∷ rest) more l s c n = inl (_, many_tokens items (b ∷ (rest ++ more)) s (cut_on text items (b ∷ rest) more (omega arith) c) n)
+many_on text items [] more l s c n = of (nth items 65536 (omega (arith, n, amount_is 0 1 items)))
   where
     item : TokenKind → List ℕ → Item
     item k bytes = record { piece = token k; bytes = bytes }
@@ -170,48 +173,87 @@ many_on text items [] more s c n left_open = of (nth items 65536 (omega (arith, 
     count a e = amount_is 0 1 a ∙ e
 
     -- the token is followed by others, or by none
-    by_after : (a : List Item) (k : TokenKind) (bytes : List ℕ) (after : List Item) → items ≡ a ++ item k bytes ∷ after → amount a ≡ 65536 → Refused (text ++ more)
+    by_after : (a : List Item) (k : TokenKind) (bytes : List ℕ) (after : List Item) → items ≡ a ++ item k bytes ∷ after → amount a ≡ 65536 → GoesOn text more
     by_after a k bytes [] e f =
         let cut = cut_before text a (item k bytes ∷ []) [] (subst (λ l. IsCut text l []) e c) in
         let each = (parted a (item k bytes ∷ []) [] (subst (λ l. AreItems l []) e c.each)).1 in
         let bare : (bytes ++ []) ++ [] ≡ bytes = append-nil (bytes ++ []) ∙ append-nil bytes in
-        last_on text a k bytes more s (subst (IsCut text a) bare cut) each.0 (count a f) left_open
+        last_on text a k bytes more l s (subst (IsCut text a) bare cut) each.0 (count a f)
     by_after a k bytes (i ∷ after) e f =
         let regrouped : items ≡ (a ++ item k bytes ∷ []) ++ i ∷ after = e ∙ sym (append_assoc a (item k bytes ∷ []) (i ∷ after)) in
         let cut = cut_before text (a ++ item k bytes ∷ []) (i ∷ after) [] (subst (λ l. IsCut text l []) regrouped c) in
         let each = (parted (a ++ item k bytes ∷ []) (i ∷ after) [] (subst (λ l. AreItems l []) regrouped c.each)).1 in
-        (_, many_tokens (a ++ item k bytes ∷ []) _ s (cut_on text (a ++ item k bytes ∷ []) _ more (omega (arith, some_bytes i.piece i.bytes each.0, length-append (i.bytes ++ written after) [], length-append i.bytes (written after))) cut) (omega (arith, amount_is 0 1 (a ++ item k bytes ∷ []), amount-append a (item k bytes ∷ []), f)))
+        inl (_, many_tokens (a ++ item k bytes ∷ []) _ s (cut_on text (a ++ item k bytes ∷ []) _ more (omega (arith, some_bytes i.piece i.bytes each.0, length-append (i.bytes ++ written after) [], length-append i.bytes (written after))) cut) (omega (arith, amount_is 0 1 (a ++ item k bytes ∷ []), amount-append a (item k bytes ∷ []), f)))
 
-    of : Nth items 65536 → Refused (text ++ more)
+    of : Nth items 65536 → GoesOn text more
     of t = by_after t.before t.kind t.bytes t.after t.whole t.count
 
 some_len : (rest : List ℕ) → (rest ≡ [] → ⊥) → 1 ≤ length rest
 some_len [] h = absurd (h refl)
 some_len (b ∷ rest) h = omega arith
 
-faulty_on : (text : List ℕ) (items : List Item) (rest more : List ℕ) (e : ProgErr) → length (text ++ more) ≤ 262144 → IsCut text items rest → length (tokens_of 0 1 items) ≤ 65536 → IsFault (1 + lines_in (written items)) rest e → ¬ EndsOpen text → Refused (text ++ more)
-faulty_on text items rest more e s c n f left_open = of (fault_on (1 + lines_in (written items)) rest more e f)
+-- one byte more in a comment that has begun
+one_byte_on : (line : ℕ) (rest held : List ℕ) (c : ℕ) → rest ≡ 47 ∷ 42 ∷ held → IsOpen held → FaultOn line (rest ++ c ∷ []) ⊎ ((before : List ℕ) × (held ≡ before ++ 42 ∷ []))
+one_byte_on line rest held c e o = of (ends_with_star false held) refl (cases_lt c 128)
+  where
+    whole : rest ++ c ∷ [] ≡ 47 ∷ 42 ∷ (held ++ c ∷ [])
+    whole = ap (λ t. t ++ c ∷ []) e
+
+    ended : ((held ≡ []) × (false ≡ true)) ⊎ ((before : List ℕ) × (held ≡ before ++ 42 ∷ [])) → (before : List ℕ) × (held ≡ before ++ 42 ∷ [])
+    ended (inl f) = absurd (let x = f.1 in cc)
+    ended (inr f) = f
+
+    of : (v : Bool) → ends_with_star false held ≡ v → (c < 128) ⊎ (128 ≤ c) → FaultOn line (rest ++ c ∷ []) ⊎ ((before : List ℕ) × (held ≡ before ++ 42 ∷ []))
+    of true f l = inr (ended (before_star held false f))
+    of false f (inl l) = inl (_, open_comment (held ++ c ∷ [], whole, open_of (held ++ c ∷ []) (goes_more held false c (goes held o) l (and_left (ends_with_star false held) (c == 47) f))))
+    of false f (inr l) = inl (_, byte_in_block held c [] whole o l)
+
+faulty_on : (text : List ℕ) (items : List Item) (rest : List ℕ) (d : ℕ) (more : List ℕ) (e : ProgErr) → length (text ++ d ∷ more) ≤ 262144 → IsCut text items rest → length (tokens_of 0 1 items) ≤ 65536 → IsFault (1 + lines_in (written items)) rest e → GoesOn text (d ∷ more)
+faulty_on text items rest d more e s c n f = of (fault_on (1 + lines_in (written items)) rest (d ∷ more) e f)
   where
     some : 1 ≤ length rest
     some = some_len rest (some_rest (1 + lines_in (written items)) rest e f)
 
-    cut : IsCut (text ++ more) items (rest ++ more)
-    cut = cut_on text items rest more some c
+    cut : IsCut (text ++ d ∷ more) items (rest ++ d ∷ more)
+    cut = cut_on text items rest (d ∷ more) some c
 
-    string : IsOpenString rest → (length (tokens_of 0 1 items) < 65536) ⊎ (65536 ≤ length (tokens_of 0 1 items)) → Refused (text ++ more)
-    string o (inl few) = absurd (left_open (record { items = items; rest = rest; cut = c; few = n; end = inl (few, o) }))
-    string o (inr all) = refused_at_token (text ++ more) items 34 (o.0 ++ more) s (subst (IsCut (text ++ more) items) (ap (λ t. t ++ more) o.1) cut) (omega arith) refl (no_slash 34 (o.0 ++ more) (λ e. absurd (omega arith)))
+    faulty : FaultOn (1 + lines_in (written items)) (rest ++ d ∷ more) → GoesOn text (d ∷ more)
+    faulty g = inl (g.0, fault items (rest ++ d ∷ more) g.0 s cut n g.1)
 
-    of : ((d : ProgErr) × IsFault (1 + lines_in (written items)) (rest ++ more) d) ⊎ (IsOpenString rest ⊎ IsOpenComment rest) → Refused (text ++ more)
-    of (inl g) = (g.0, fault items (rest ++ more) g.0 s cut n g.1)
-    of (inr (inl o)) = string o (cases_lt (length (tokens_of 0 1 items)) 65536)
-    of (inr (inr o)) = absurd (left_open (record { items = items; rest = rest; cut = c; few = n; end = inr (inl o) }))
+    opens : (missing : List ℕ) → IsOpenEnd (length (tokens_of 0 1 items)) rest missing → length missing ≤ length (d ∷ more) → GoesOn text (d ∷ more)
+    opens missing o l = inr (missing, record { items = items; rest = rest; cut = c; few = n; end = o; room = omega (arith, length-append text (d ∷ more)) })
 
-pub refused_on : (text more : List ℕ) (e : ProgErr) → IsRefused text e → ¬ EndsOpen text → (f : ProgErr) × IsRefused (text ++ more) f
-refused_on text more e r left_open = of (cases_lt 262144 (length (text ++ more))) e r
+    by_string : IsOpenString rest → (length (tokens_of 0 1 items) < 65536) ⊎ (65536 ≤ length (tokens_of 0 1 items)) → GoesOn text (d ∷ more)
+    by_string o (inl few) = opens (34 ∷ []) (string few o) (omega arith)
+    by_string o (inr all) =
+        inl (refused_at_token (text ++ d ∷ more) items 34 (o.0 ++ d ∷ more) s (subst (IsCut (text ++ d ∷ more) items) (ap (λ t. t ++ d ∷ more) o.1) cut) (omega arith) refl (no_slash 34 (o.0 ++ d ∷ more) (λ e. absurd (omega arith))))
+
+    by_comment : (m : List ℕ) → more ≡ m → IsOpenComment rest → GoesOn text (d ∷ more)
+    by_comment [] e o = last (one_byte_on (1 + lines_in (written items)) rest o.0 d o.1 o.2)
+      where
+        last : FaultOn (1 + lines_in (written items)) (rest ++ d ∷ []) ⊎ ((before : List ℕ) × (o.0 ≡ before ++ 42 ∷ [])) → GoesOn text (d ∷ more)
+        last (inl g) = faulty (subst (λ m. FaultOn (1 + lines_in (written items)) (rest ++ d ∷ m)) (sym e) g)
+        last (inr g) = opens (47 ∷ []) (star g.0 (o.1 ∙ ap (λ t. 47 ∷ 42 ∷ t) g.1) (subst IsOpen g.1 o.2)) (omega arith)
+    by_comment (x ∷ m) e o = opens (42 ∷ 47 ∷ []) (comment o) (omega (arith, ap length e))
+
+    of : FaultOn (1 + lines_in (written items)) (rest ++ d ∷ more) ⊎ (IsOpenString rest ⊎ IsOpenComment rest) → GoesOn text (d ∷ more)
+    of (inl g) = faulty g
+    of (inr (inl o)) = by_string o (cases_lt (length (tokens_of 0 1 items)) 65536)
+    of (inr (inr o)) = by_comment more refl o
+
+goes_on : (text more : List ℕ) (e : ProgErr) → IsRefused text e → GoesOn text more
+goes_on text [] e r = inl (e, subst (λ t. IsRefused t e) (sym (append-nil text)) r)
+goes_on text (d ∷ more) e r = of (cases_lt 262144 (length (text ++ d ∷ more))) e r
   where
-    of : (262144 < length (text ++ more)) ⊎ (length (text ++ more) ≤ 262144) → (e : ProgErr) → IsRefused text e → Refused (text ++ more)
-    of (inl h) e r = (_, long_text h)
-    of (inr h) _ (long_text k) = absurd (omega (arith, length-append text more))
-    of (inr h) _ (fault items rest e s c n f) = faulty_on text items rest more e h c n f left_open
-    of (inr h) _ (many_tokens items rest s c n) = many_on text items rest more h c n left_open
+    of : (262144 < length (text ++ d ∷ more)) ⊎ (length (text ++ d ∷ more) ≤ 262144) → (e : ProgErr) → IsRefused text e → GoesOn text (d ∷ more)
+    of (inl h) e r = inl (_, long_text h)
+    of (inr h) _ (long_text k) = absurd (omega (arith, length-append text (d ∷ more)))
+    of (inr h) _ (fault items rest e s c n f) = faulty_on text items rest d more e h c n f
+    of (inr h) _ (many_tokens items rest s c n) = many_on text items rest (d ∷ more) (omega arith) h c n
+
+pub refused_on : (text more : List ℕ) (e : ProgErr) → IsRefused text e → ((missing : List ℕ) → EndsOpen text missing → ⊥) → (f : ProgErr) × IsRefused (text ++ more) f
+refused_on text more e r h = of (goes_on text more e r)
+  where
+    of : GoesOn text more → (f : ProgErr) × IsRefused (text ++ more) f
+    of (inl g) = g
+    of (inr g) = absurd (h g.0 g.1)

@@ -1,13 +1,16 @@
 -- The tokens of a text stand in it, one after the other.
-use Rattle.std.proofs.Common.{◌≡◌, ℕ, zero, suc, ◌+◌, ◌-◌, ◌<◌, ◌≤◌, List, [], ◌∷◌, ◌++◌, length, take, drop, refl, sym, ap, ◌∙◌, subst, arith, append_assoc, length-append, length-drop}
+use Rattle.std.proofs.Common.{◌≡◌, ℕ, ◌+◌, ◌-◌, ◌≤◌, List, [], ◌∷◌, ◌++◌, length, take, drop, Result, Ok, Err, refl, sym, ap, ◌∙◌, subst, arith, append_assoc, length-append, length-drop}
+use Rattle.std.specs.Prelude.{IfOk}
 use Rattle.std.specs.List.{AllByRecursion, slice_range}
-use Rattle.std.proofs.lemmas.List.{append-nil, take_at, drop_at, drop_all, take_all, take-append-drop, drop-append-le, drop-drop}
+use Rattle.std.proofs.lemmas.List.{append-nil, take_at, drop_at, take_all, take-append-drop, drop-append-le, drop-drop}
+use Rattle.dsm_syntax.specs.declared.errors.ProgErr.{ProgErr}
 use Rattle.dsm_syntax.specs.declared.token.Token.{Token}
 use Rattle.dsm_syntax.specs.Bytes.{lines_in}
 use Rattle.dsm_syntax.specs.Pieces.{Piece, blank, line_comment, block_comment, token, IsPiece}
 use Rattle.dsm_syntax.specs.Texts.{Item, written, AreItems, tokens_of, Spells}
 use Rattle.dsm_syntax.specs.Places.{slice_of, IsSpace, AreSpaces, StandsAfter, AreInPlace, joined}
 use Rattle.dsm_syntax.proofs.Cuts.{lines_in-append, written_more}
+use Rattle.dsm_syntax.proofs.Outcomes.{Told}
 
 -- ---- slices
 
@@ -97,6 +100,10 @@ placed text before from at line (item ∷ items) h e f = of item.piece refl (λ 
 
 pub in_place : (text : List ℕ) (tokens : List Token) → Spells tokens text → AreInPlace text 0 tokens
 in_place text tokens s = subst (AreInPlace text 0) (sym s.2) (placed text [] 0 0 1 s.0 (record { whole = s.1.whole ∙ append-nil (written s.0); behind = omega arith; between = no_space; each = s.1.each }) refl refl)
+
+pub told_in_place : (text : List ℕ) (result : Result (List Token) ProgErr) → Told text result → IfOk result (λ tokens. AreInPlace text 0 tokens)
+told_in_place text (Ok tokens) h = in_place text tokens h.spelled
+told_in_place text (Err e) h = tt
 
 -- ---- joined
 

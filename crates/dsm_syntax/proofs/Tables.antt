@@ -1,6 +1,6 @@
 -- The tables of signs and words are the grammar's.
-use Rattle.std.proofs.Common.{◌≡◌, ◌≢◌, ℕ, zero, suc, ◌+◌, ◌<◌, ◌≤◌, Bool, true, false, cond, List, [], ◌∷◌, ◌++◌, length, take, drop, Option, Some, None, refl, sym, ap, ◌∙◌, subst, arith, slice_index, ◌⊎◌, inl, inr, le_refl, append_assoc, length-append}
-use Rattle.std.specs.Prelude.{not, ◌||◌, ◌&&◌, ◌==◌, nat_eq, nat_lt, nat_le}
+use Rattle.std.proofs.Common.{◌≡◌, ◌≢◌, ℕ, ◌<◌, ◌≤◌, Bool, true, false, cond, List, [], ◌∷◌, ◌++◌, length, take, drop, Option, Some, None, refl, sym, ap, ◌∙◌, arith, slice_index, ◌⊎◌, inl, inr, append_assoc}
+use Rattle.std.specs.Prelude.{not, ◌||◌, ◌&&◌, ◌==◌, nat_eq, nat_le}
 use Rattle.std.specs.Char.{is_ascii_digit}
 use Rattle.std.specs.List.{starts_with, list_all}
 use Rattle.std.specs.Str.{bytes_eq}

@@ -1,5 +1,5 @@
 -- What is wrong at the front of a text where no piece stands.
-use Rattle.std.specs.Prelude.{◌≡◌, ◌≢◌, ◌≤◌, ◌<◌, ℕ, ◌+◌, Bool, true, false, ◌⊎◌, IsTrue, List, [], ◌∷◌, ◌++◌, length}
+use Rattle.std.specs.Prelude.{◌≡◌, ◌≢◌, ◌≤◌, ◌<◌, ℕ, ◌+◌, false, ◌⊎◌, IsTrue, List, [], ◌∷◌, ◌++◌, length}
 use Rattle.std.specs.Char.{is_ascii_digit}
 use Rattle.dsm_syntax.specs.declared.errors.ProgErr.{ProgErr}
 use Rattle.dsm_syntax.specs.declared.errors.ProgErr.TheVariants as err
@@ -32,17 +32,34 @@ IsOpenComment text = (held : List ℕ) × (text ≡ 47 ∷ 42 ∷ held) × IsOpe
 -- what is refused at the front of a text that begins in this line
 pub data IsFault (line : ℕ) (text : List ℕ) : ProgErr → Type 0 where
   -- a byte that begins nothing
-  stray : (b : ℕ) (rest : List ℕ) → text ≡ b ∷ rest → IsStray b → IsFault line text (err.BadByte line)
+  stray : (b : ℕ) (rest : List ℕ)
+      → text ≡ b ∷ rest → IsStray b
+      → IsFault line text (err.BadByte line)
   -- a number that runs into what it may not
-  glued : (digits : List ℕ) (b : ℕ) (rest : List ℕ) → text ≡ digits ++ b ∷ rest → IsNumber digits → RunsInto digits b → IsFault line text (err.BadByte line)
+  glued : (digits : List ℕ) (b : ℕ) (rest : List ℕ)
+      → text ≡ digits ++ b ∷ rest → IsNumber digits → RunsInto digits b
+      → IsFault line text (err.BadByte line)
   -- a string with a byte that it may not hold
-  broken_string : (held : List ℕ) (b : ℕ) (rest : List ℕ) → text ≡ 34 ∷ (held ++ b ∷ rest) → AllAre is_string_byte held → is_string_byte b ≡ false → b ≢ 34 → IsFault line text (err.BadByte line)
+  broken_string : (held : List ℕ) (b : ℕ) (rest : List ℕ)
+      → text ≡ 34 ∷ (held ++ b ∷ rest) → AllAre is_string_byte held → is_string_byte b ≡ false → b ≢ 34
+      → IsFault line text (err.BadByte line)
+  -- a string that doesn't end
   open_string : IsOpenString text → IsFault line text (err.BadByte line)
-  -- a byte from 128 on in a comment; the line is the byte's
-  byte_in_line : (held : List ℕ) (b : ℕ) (rest : List ℕ) → text ≡ 47 ∷ 47 ∷ (held ++ b ∷ rest) → AllAre is_line_byte held → 128 ≤ b → IsFault line text (err.BadByte line)
-  byte_in_block : (held : List ℕ) (b : ℕ) (rest : List ℕ) → text ≡ 47 ∷ 42 ∷ (held ++ b ∷ rest) → IsOpen held → 128 ≤ b → IsFault line text (err.BadByte (line + lines_in held))
+  -- a byte from 128 on in a comment in one line
+  byte_in_line : (held : List ℕ) (b : ℕ) (rest : List ℕ)
+      → text ≡ 47 ∷ 47 ∷ (held ++ b ∷ rest) → AllAre is_line_byte held → 128 ≤ b
+      → IsFault line text (err.BadByte line)
+  -- a byte from 128 on in a comment of several lines, with the line of the byte
+  byte_in_block : (held : List ℕ) (b : ℕ) (rest : List ℕ)
+      → text ≡ 47 ∷ 42 ∷ (held ++ b ∷ rest) → IsOpen held → 128 ≤ b
+      → IsFault line text (err.BadByte (line + lines_in held))
+  -- a comment that doesn't end
   open_comment : IsOpenComment text → IsFault line text (err.BadByte line)
   -- a number over the greatest
-  too_large : (digits rest : List ℕ) → text ≡ digits ++ rest → IsNumber digits → Stops is_name_byte rest → 9223372036854775807 < decimal digits → IsFault line text (err.LiteralTooLarge line)
+  too_large : (digits rest : List ℕ)
+      → text ≡ digits ++ rest → IsNumber digits → Stops is_name_byte rest → 9223372036854775807 < decimal digits
+      → IsFault line text (err.LiteralTooLarge line)
   -- a name over its limit, with its whole length
-  too_long : (name rest : List ℕ) → text ≡ name ++ rest → IsName name → Stops is_name_byte rest → 64 < length name → IsFault line text (err.Limit which.Name (length name))
+  too_long : (name rest : List ℕ)
+      → text ≡ name ++ rest → IsName name → Stops is_name_byte rest → 64 < length name
+      → IsFault line text (err.Limit which.Name (length name))

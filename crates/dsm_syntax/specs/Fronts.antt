@@ -1,5 +1,5 @@
 -- The front of a text as the code reads it. The grammar is in Pieces and Faults; these functions are tied to it by proof.
-use Rattle.std.specs.Prelude.{◌≡◌, ◌≤◌, ◌<◌, ⊤, ℕ, ◌+◌, ◌-◌, pos, Bool, true, false, not, ◌&&◌, ◌||◌, ◌==◌, nat_eq, nat_lt, nat_le, if◌then◌else◌, List, [], ◌∷◌, length, map, take, drop, slice_index, Option, Some, None, Result, Ok, Err, find}
+use Rattle.std.specs.Prelude.{◌≡◌, ◌≤◌, ◌<◌, ⊤, ℕ, ◌+◌, ◌-◌, pos, Bool, false, not, ◌&&◌, ◌||◌, ◌==◌, nat_eq, nat_lt, nat_le, if◌then◌else◌, List, [], ◌∷◌, length, map, take, drop, slice_index, Option, Some, None, Result, Ok, Err}
 use Rattle.std.specs.Char.{is_ascii_digit}
 use Rattle.std.specs.List.{prefix_len, starts_with}
 use Rattle.std.specs.Str.{bytes_eq}
@@ -26,8 +26,10 @@ use Rattle.dsm_syntax.specs.Pieces.{decimal}
 -- a table's first entry whose text begins a text, and its length
 abbrev pub first_sign : List (List ℕ × Sign) → List ℕ → Option (Sign × ℕ)
 first_sign [] text = None
-first_sign (entry ∷ entries) text = if starts_with nat_eq text entry.0 then Some (entry.1, length entry.0) else first_sign entries text
+first_sign (entry ∷ entries) text =
+    if starts_with nat_eq text entry.0 then Some (entry.1, length entry.0) else first_sign entries text
 
+-- the table of signs
 unfoldable pub signs : List (List ℕ × Sign)
 signs = map (λ entry. (entry.0.now, entry.1)) SIGNS
 
@@ -36,6 +38,7 @@ abbrev pub first_word : List (List ℕ × Word) → List ℕ → Option Word
 first_word [] text = None
 first_word (entry ∷ entries) text = if bytes_eq entry.0 text then Some entry.1 else first_word entries text
 
+-- the table of words
 unfoldable pub words : List (List ℕ × Word)
 words = map (λ entry. (entry.0.now, entry.1)) WORDS
 
@@ -56,13 +59,16 @@ lead_of text =
     else (if first == 47 && second == 42 then l.BlockComment
     else l.Sign)))))
 
+-- a word, or a name within its limit
 abbrev pub named : Option Word → ℕ → Result Front ProgErr
 named (Some word) len = found (s.Word word) len
 named None len = if nat_le len 64 then found s.Name len else Err (err.Limit which.Name len)
 
+-- a name or a word
 abbrev pub name : List ℕ → Result Front ProgErr
 name text = let len = prefix_len is_name_byte text in named (first_word words (take len text)) len
 
+-- a number that fits and runs into nothing
 abbrev pub number : ℕ → List ℕ → Result Front ProgErr
 number line text =
     let len = prefix_len is_ascii_digit text in
@@ -70,11 +76,13 @@ number line text =
     else (if nat_le (decimal (take len text)) 9223372036854775807 then found (s.Number (pos (decimal (take len text)))) len
     else Err (err.LiteralTooLarge line))
 
+-- a string up to its second quote
 abbrev pub string : ℕ → List ℕ → Result Front ProgErr
 string line text =
     let held = prefix_len is_string_byte (drop 1 text) in
     if slice_index (drop 1 text) held == 34 then found s.Str (held + 2) else Err (err.BadByte line)
 
+-- a comment in one line
 abbrev pub line_comment : ℕ → List ℕ → Result Front ProgErr
 line_comment line text =
     let len = prefix_len is_line_byte text in
@@ -94,21 +102,26 @@ IsWithin (c.Ends len) most = len ≤ most
 IsWithin (c.Byte at) most = at < most
 IsWithin c.Open most = ⊤
 
+-- a comment by how it goes on
 abbrev pub closed : ℕ → List ℕ → Closing → Result Front ProgErr
 closed line text (c.Ends len) = found s.BlockComment (len + 2)
 closed line text (c.Byte at) = Err (err.BadByte (line + lines_in (take at (drop 2 text))))
 closed line text c.Open = Err (err.BadByte line)
 
+-- a comment up to the first star and slash
 abbrev pub block_comment : ℕ → List ℕ → Result Front ProgErr
 block_comment line text = closed line text (closing_of false 0 (drop 2 text))
 
+-- a sign, where one is found
 abbrev pub signed : ℕ → Option (Sign × ℕ) → Result Front ProgErr
 signed line (Some at) = found (s.Sign at.0) at.1
 signed line None = Err (err.BadByte line)
 
+-- the longest sign
 abbrev pub sign : ℕ → List ℕ → Result Front ProgErr
 sign line text = signed line (first_sign signs text)
 
+-- the front by what the first bytes begin
 abbrev pub front_by : ℕ → List ℕ → Lead → Result Front ProgErr
 front_by line text l.Blank = found s.Blank 1
 front_by line text l.Name = name text
@@ -118,6 +131,7 @@ front_by line text l.LineComment = line_comment line text
 front_by line text l.BlockComment = block_comment line text
 front_by line text l.Sign = sign line text
 
+-- the piece at the front of a text that begins in this line
 abbrev pub front_of : ℕ → List ℕ → Result Front ProgErr
 front_of line text = front_by line text (lead_of text)
 

@@ -5,5 +5,5 @@ pub mod Pieces
 pub mod Faults
 pub mod Texts
 pub mod Fronts
-pub mod Ends
+pub mod OpenEnds
 pub mod Places

@@ -1,15 +1,12 @@
 -- The grammar of the pieces that a text is made of, by cases on the bytes. A piece goes as far as it can.
-use Rattle.std.specs.Prelude.{◌≡◌, ◌≢◌, ◌≤◌, ◌<◌, ℕ, ◌+◌, ◌-◌, ◌*◌, ℤ, pos, Bool, true, false, ◌⊎◌, ⊤, IsTrue, List, [], ◌∷◌, ◌++◌, length, fold}
+use Rattle.std.specs.Prelude.{◌≡◌, ◌≢◌, ◌≤◌, ◌<◌, ℕ, ◌+◌, ◌-◌, ◌*◌, pos, Bool, false, ◌⊎◌, ⊤, IsTrue, List, [], ◌∷◌, ◌++◌, length, fold}
 use Rattle.std.specs.Char.{is_ascii_digit}
 use Rattle.std.specs.List.{AllByRecursion}
-use Rattle.dsm_syntax.specs.declared.errors.ProgErr.{ProgErr}
-use Rattle.dsm_syntax.specs.declared.errors.ProgErr.TheVariants as err
-use Rattle.dsm_syntax.specs.declared.errors.Which.TheVariants as which
 use Rattle.dsm_syntax.specs.declared.sign.Sign.{Sign}
 use Rattle.dsm_syntax.specs.declared.token.TokenKind.{TokenKind}
 use Rattle.dsm_syntax.specs.declared.token.TokenKind.TheVariants as kind
 use Rattle.dsm_syntax.specs.declared.word.Word.{Word}
-use Rattle.dsm_syntax.specs.Bytes.{is_letter, is_name_byte, is_blank, is_string_byte, is_line_byte, lines_in}
+use Rattle.dsm_syntax.specs.Bytes.{is_letter, is_name_byte, is_blank, is_string_byte, is_line_byte}
 use Rattle.dsm_syntax.specs.Signs.{sign_text}
 use Rattle.dsm_syntax.specs.Words.{word_text}
 
@@ -62,7 +59,8 @@ IsNoWord bytes = (word : Word) → word_text word ≢ bytes
 abbrev pub IsToken : TokenKind → List ℕ → Type 0
 IsToken (kind.Name name) bytes = (bytes ≡ name) × IsName name × IsNoWord name × (length name ≤ 64)
 IsToken (kind.Word word) bytes = bytes ≡ word_text word
-IsToken (kind.Number value) bytes = IsNumber bytes × (decimal bytes ≤ 9223372036854775807) × (value ≡ pos (decimal bytes))
+IsToken (kind.Number value) bytes =
+    IsNumber bytes × (decimal bytes ≤ 9223372036854775807) × (value ≡ pos (decimal bytes))
 IsToken (kind.Str held) bytes = (bytes ≡ 34 ∷ (held ++ 34 ∷ [])) × AllAre is_string_byte held
 IsToken (kind.Sign sign) bytes = bytes ≡ sign_text sign
 
@@ -70,12 +68,14 @@ IsToken (kind.Sign sign) bytes = bytes ≡ sign_text sign
 abbrev pub IsPiece : Piece → List ℕ → Type 0
 IsPiece blank bytes = (b : ℕ) × (bytes ≡ b ∷ []) × IsTrue (is_blank b)
 IsPiece line_comment bytes = (held : List ℕ) × (bytes ≡ 47 ∷ 47 ∷ held) × AllAre is_line_byte held
-IsPiece block_comment bytes = (held : List ℕ) × (bytes ≡ 47 ∷ 42 ∷ (held ++ 42 ∷ 47 ∷ [])) × IsOpen (held ++ 42 ∷ [])
+IsPiece block_comment bytes =
+    (held : List ℕ) × (bytes ≡ 47 ∷ 42 ∷ (held ++ 42 ∷ 47 ∷ [])) × IsOpen (held ++ 42 ∷ [])
 IsPiece (token kind) bytes = IsToken kind bytes
 
 -- no longer sign stands there
 abbrev pub IsLongestSign : List ℕ → List ℕ → Type 0
-IsLongestSign bytes rest = (sign : Sign) (more : List ℕ) → bytes ++ rest ≡ sign_text sign ++ more → length (sign_text sign) ≤ length bytes
+IsLongestSign bytes rest =
+    (sign : Sign) (more : List ℕ) → bytes ++ rest ≡ sign_text sign ++ more → length (sign_text sign) ≤ length bytes
 
 -- what may follow the text of a token, which would be longer otherwise
 abbrev pub EndsToken : TokenKind → List ℕ → List ℕ → Type 0

@@ -1,5 +1,5 @@
 -- Where the tokens of a text stand in it.
-use Rattle.std.specs.Prelude.{◌≡◌, ◌≤◌, ℕ, ◌+◌, ⊤, List, [], ◌∷◌, ◌++◌, length, take, drop}
+use Rattle.std.specs.Prelude.{◌≡◌, ◌≤◌, ℕ, ◌+◌, List, [], ◌∷◌, ◌++◌, length, take, drop}
 use Rattle.std.specs.List.{AllByRecursion, slice_range}
 use Rattle.dsm_syntax.specs.declared.token.Token.{Token}
 use Rattle.dsm_syntax.specs.Bytes.{lines_in}
@@ -40,4 +40,5 @@ AreInPlace text from (token ∷ tokens) = StandsAfter text from token × AreInPl
 -- what stands before each token and the token's slice, one after the other, and what stands after the last
 abbrev pub joined : List ℕ → ℕ → List Token → List ℕ
 joined text from [] = drop from text
-joined text from (token ∷ tokens) = slice_range text from token.at ++ slice_of text token ++ joined text (token.at + token.len) tokens
+joined text from (token ∷ tokens) =
+    slice_range text from token.at ++ slice_of text token ++ joined text (token.at + token.len) tokens

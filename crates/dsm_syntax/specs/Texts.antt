@@ -21,7 +21,8 @@ written items = flat_map (λ item. item.bytes) items
 -- each item has a text of its piece, and goes as far as it can
 abbrev pub AreItems : List Item → List ℕ → Type 0
 AreItems [] rest = ⊤
-AreItems (item ∷ items) rest = IsPiece item.piece item.bytes × Ends item.piece item.bytes (written items ++ rest) × AreItems items rest
+AreItems (item ∷ items) rest =
+    IsPiece item.piece item.bytes × Ends item.piece item.bytes (written items ++ rest) × AreItems items rest
 
 -- the token of a piece at a place: none of blank space and comments
 abbrev pub token_of : ℕ → ℕ → Item → List Token
@@ -35,7 +36,8 @@ token_of at line item = elim item.piece [
 -- the tokens among items, each with its first byte, its length and its line
 abbrev pub tokens_of : ℕ → ℕ → List Item → List Token
 tokens_of at line [] = []
-tokens_of at line (item ∷ items) = token_of at line item ++ tokens_of (at + length item.bytes) (line + lines_in item.bytes) items
+tokens_of at line (item ∷ items) =
+    token_of at line item ++ tokens_of (at + length item.bytes) (line + lines_in item.bytes) items
 
 -- the text is these items and then the rest
 pub record IsCut (text : List ℕ) (items : List Item) (rest : List ℕ) : Type 0 where
@@ -52,12 +54,18 @@ pub record IsLexed (text : List ℕ) (tokens : List Token) : Type 0 where
   pub spelled : Spells tokens text
   pub few : length tokens ≤ 65536
 
--- why a text is refused: for its length, which comes first; else for the first fault from the left, or for the token
--- after the last that is allowed
+-- why a text is refused
 pub data IsRefused (text : List ℕ) : ProgErr → Type 0 where
+  -- for its length, before all else
   long_text : 262144 < length text → IsRefused text (err.Limit which.Text (min (length text) 4294967295))
-  fault : (items : List Item) (rest : List ℕ) (e : ProgErr) → length text ≤ 262144 → IsCut text items rest → length (tokens_of 0 1 items) ≤ 65536 → IsFault (1 + lines_in (written items)) rest e → IsRefused text e
-  many_tokens : (items : List Item) (rest : List ℕ) → length text ≤ 262144 → IsCut text items rest → length (tokens_of 0 1 items) ≡ 65537 → IsRefused text (err.Limit which.Tokens 65537)
+  -- for a fault behind the pieces before it, which have no token too many
+  fault : (items : List Item) (rest : List ℕ) (e : ProgErr)
+      → length text ≤ 262144 → IsCut text items rest → length (tokens_of 0 1 items) ≤ 65536
+      → IsFault (1 + lines_in (written items)) rest e → IsRefused text e
+  -- for the first token that is one too many
+  many_tokens : (items : List Item) (rest : List ℕ)
+      → length text ≤ 262144 → IsCut text items rest → length (tokens_of 0 1 items) ≡ 65537
+      → IsRefused text (err.Limit which.Tokens 65537)
 
 -- the answer is this one, or want of memory
 abbrev pub IsAnswer : Result (List Token) ProgErr → Result (List Token) ProgErr → Type 0

@@ -32,19 +32,37 @@ pub enum Which {
 #[derive(Debug, Drop)]
 pub enum ProgErr {
     /// A byte that no token and no comment can have there.
-    BadByte { line: u32 },
+    BadByte {
+        line: u32,
+    },
     /// A number over 9223372036854775807.
-    LiteralTooLarge { line: u32 },
+    LiteralTooLarge {
+        line: u32,
+    },
     /// More than a limit allows; the count is what there is.
-    Limit { which: Which, count: u32 },
+    Limit {
+        which: Which,
+        count: u32,
+    },
     /// A token at which no program goes on.
-    Unexpected { line: u32 },
+    Unexpected {
+        line: u32,
+    },
     /// A name that isn't declared.
-    Unknown { name: Text, line: u32 },
+    Unknown {
+        name: Text,
+        line: u32,
+    },
     /// A name that is declared already.
-    Twice { name: Text, line: u32 },
+    Twice {
+        name: Text,
+        line: u32,
+    },
     /// A name that is used as what it isn't.
-    WrongKind { name: Text, line: u32 },
+    WrongKind {
+        name: Text,
+        line: u32,
+    },
     /// A call with another number of arguments than the function has parameters.
     ArgCount {
         name: Text,
@@ -55,15 +73,27 @@ pub enum ProgErr {
     /// There is no function `main` as it has to be.
     NoMain,
     /// A binding outside of what it names.
-    BindRange { line: u32 },
+    BindRange {
+        line: u32,
+    },
     /// A cell that two bindings name.
-    BindOverlap { cell: u32, line: u32 },
+    BindOverlap {
+        cell: u32,
+        line: u32,
+    },
     /// A binding's owner that is no processor.
-    BindOwner { owner: u32, procs: u8 },
+    BindOwner {
+        owner: u32,
+        procs: u8,
+    },
     /// A `break` or a `continue` outside a loop.
-    OutsideLoop { line: u32 },
+    OutsideLoop {
+        line: u32,
+    },
     /// What isn't built yet.
-    NotBuilt { line: u32 },
+    NotBuilt {
+        line: u32,
+    },
     /// Want of memory.
     Memory,
 }

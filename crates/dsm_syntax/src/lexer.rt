@@ -1,9 +1,10 @@
 //! The tokens of a text.
 
-ghost use Rattle.std.specs.Prelude.{◌≡◌, List, ◌+◌, ◌^◌, ◌<◌, ◌≤◌, ◌⊎◌, ◌++◌, length, Ok, Err, IfOk, IfErr, OnOk, MatchResult};
+ghost use Rattle.std.specs.Prelude.{◌≡◌, ◌≤◌, ◌⊎◌, List, ◌++◌, length, Ok, Err, IfOk, IfErr, OnOk, MatchResult};
 ghost use Rattle.dsm_syntax.specs.declared.token.Token.{Token};
 ghost use Rattle.dsm_syntax.specs.declared.errors.ProgErr.{ProgErr};
 ghost use Rattle.dsm_syntax.specs.Texts.{IsLexed, IsRefused, IsAnswer};
+ghost use Rattle.dsm_syntax.specs.Places.{AreInPlace};
 ghost use Rattle.dsm_syntax.specs.Fronts.{kind_of, held_in, listed, IsUnlisted};
 
 use crate::errors::{ProgErr, Which};
@@ -44,7 +45,13 @@ fn kind_of(alloc: Global, shape: Shape, bytes: &[u8]) -> Result<Option<TokenKind
 }
 
 /// Adds a token, where there are not too many.
-fn add(tokens: &mut Tokens, kind: Option<TokenKind>, at: u32, len: u32, line: u32) -> Result<(), ProgErr>
+fn add(
+    tokens: &mut Tokens,
+    kind: Option<TokenKind>,
+    at: u32,
+    len: u32,
+    line: u32,
+) -> Result<(), ProgErr>
     ensures ok { OnOk result (tokens.new ≡ tokens.old ++ listed kind at len line) }
     ensures few { OnOk result (length tokens.old ≤ 65536 → length tokens.new ≤ 65536) }
     ensures err { IfErr result (λ e. (e ≡ ProgErr.Memory) ⊎ IsUnlisted tokens.old kind e) }
@@ -70,7 +77,9 @@ fn add(tokens: &mut Tokens, kind: Option<TokenKind>, at: u32, len: u32, line: u3
 /// The tokens of a text that isn't too long.
 fn read(alloc: Global, text: &[u8]) -> Result<Tokens, ProgErr>
     requires { length text.now ≤ 262144 }
-    ensures { MatchResult result (λ tokens. IsLexed text.now tokens) (λ e. (e ≡ ProgErr.Memory) ⊎ IsRefused text.now e) }
+    ensures { MatchResult result
+        (λ tokens. IsLexed text.now tokens)
+        (λ e. (e ≡ ProgErr.Memory) ⊎ IsRefused text.now e) }
 {
     let mut tokens = Tokens::new(alloc);
     let mut at = 0;
@@ -88,12 +97,19 @@ fn read(alloc: Global, text: &[u8]) -> Result<Tokens, ProgErr>
 
 /// The tokens of a program's text, in order. Blank space and comments stand between them.
 ///
-/// `Limit` of `Text` comes first, for more than 262,144 bytes, with their number. Else the first
-/// fault from the left is answered: `BadByte` with its line, `LiteralTooLarge`, `Limit` of `Name`
-/// with the length of the whole name, or `Limit` of `Tokens` at the 65,537th token, with 65,537.
+/// - `Limit` of `Text` comes before all else, for more than 262,144 bytes, with their number.
+/// - `BadByte` comes for a byte that no token and no comment can have there, with its line, or with
+///   the line in which a string, a number or a comment begins that isn't right.
+/// - `LiteralTooLarge` comes for a number over 9223372036854775807, with its line.
+/// - `Limit` of `Name` comes for a name of more than 64 bytes, with its whole length.
+/// - `Limit` of `Tokens` comes for the 65,537th token, with 65,537.
+/// - `Memory` comes for want of memory.
+///
+/// Of several faults the first from the left is answered.
 pub fn lex(alloc: Global, text: &[u8]) -> Result<Tokens, ProgErr>
     // What is answered is so.
     ensures tokens { IfOk result (λ tokens. IsLexed text.now tokens) }
+    ensures places { IfOk result (λ tokens. AreInPlace text.now 0 tokens) }
     ensures refused { IfErr result (λ e. (e ≡ ProgErr.Memory) ⊎ IsRefused text.now e) }
 
     // And what is so is answered, unless memory runs out.

@@ -64,7 +64,8 @@ fn each_word_and_sign_is_read(rt: HostRuntime) -> Result<(), Fail> {
         Word::Barrier,
         Word::Print,
     ];
-    let text = "int void shared lock_t barrier_t bind bindeach bindb if else while for break continue return \
+    let text =
+        "int void shared lock_t barrier_t bind bindeach bindb if else while for break continue return \
         acquire acquire_shared release barrier print";
     let tokens = lex(rt.alloc(), text.as_bytes())?;
     assert_eq!(rt; tokens.len(), words.len());
@@ -116,7 +117,8 @@ fn each_word_and_sign_is_read(rt: HostRuntime) -> Result<(), Fail> {
         Sign::PlusPlus,
         Sign::MinusMinus,
     ];
-    let text = "( ) { } [ ] ; , ? : = += -= *= /= %= &= |= ^= <<= >>= || && | ^ & == != < <= > >= << >> + - * / % ! ~ ++ --";
+    let text =
+        "( ) { } [ ] ; , ? : = += -= *= /= %= &= |= ^= <<= >>= || && | ^ & == != < <= > >= << >> + - * / % ! ~ ++ --";
     let tokens = lex(rt.alloc(), text.as_bytes())?;
     assert_eq!(rt; tokens.len(), signs.len());
     for (token, sign) in tokens.as_slice().iter().zip(signs.iter()) {
@@ -147,7 +149,11 @@ fn each_token_has_its_place_and_its_line(rt: HostRuntime) -> Result<(), Fail> {
     assert_eq!(rt; tokens.len(), wanted.len());
     for (token, (kind, at, len, line)) in tokens.as_slice().iter().zip(wanted.iter()) {
         assert_eq!(rt; held(rt.alloc(), token)?.as_str(), *kind);
-        assert_eq!(rt; (token.at, token.len, token.line), (*at, *len, *line), "{kind}");
+        assert_eq!(rt;
+            (token.at, token.len, token.line),
+            (*at, *len, *line),
+            "{kind}"
+        );
     }
     Ok(())
 }
@@ -210,7 +216,10 @@ fn each_fault_has_its_line(rt: HostRuntime) -> Result<(), Fail> {
         (b"9223372036854775807", accepted),
         (b"9223372036854775808", "LiteralTooLarge { line: 1 }"),
         (b"a\n9223372036854775808;", "LiteralTooLarge { line: 2 }"),
-        (b"\n\n99999999999999999999999999999999999999999 #", "LiteralTooLarge { line: 3 }"),
+        (
+            b"\n\n99999999999999999999999999999999999999999 #",
+            "LiteralTooLarge { line: 3 }",
+        ),
         (b"18446744073709551616", "LiteralTooLarge { line: 1 }"),
         // The first fault from the left.
         (b"# 9223372036854775808", first),
@@ -261,7 +270,11 @@ fn each_limit_is_met_exactly(rt: HostRuntime) -> Result<(), Fail> {
     for (part, times, end, wanted) in table {
         let mut text = repeated(alloc, part, times)?;
         text.extend_from_slice(end)?;
-        assert_eq!(rt; refusal(alloc, text.as_slice())?.as_str(), wanted, "{part:?} {times} {end:?}");
+        assert_eq!(rt;
+            refusal(alloc, text.as_slice())?.as_str(),
+            wanted,
+            "{part:?} {times} {end:?}"
+        );
     }
     Ok(())
 }

@@ -24,6 +24,6 @@ loop-at-preserved c =
     let front = c.in_ok-front.front in
     record {
       reaches = rw c.newlines.ensures (turn c.args.text.now c.loop-at.at c.loop-at.line c.loop-at.tokens c.add.new.tokens front _ c.loop-at.invariant.reaches f (ap (λ n. take n (drop c.loop-at.at c.args.text.now)) len)
-      (c.in_ok-add.ensures.ok ∙ ap (λ k. c.loop-at.tokens ++ listed k c.loop-at.at front.len c.loop-at.line) c.in_ok-kind.ensures.kind));
+          (c.in_ok-add.ensures.ok ∙ ap (λ k. c.loop-at.tokens ++ listed k c.loop-at.at front.len c.loop-at.line) c.in_ok-kind.ensures.kind));
       few = c.in_ok-add.ensures.few c.loop-at.invariant.few;
     }
