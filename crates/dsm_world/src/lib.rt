@@ -1,0 +1,7 @@
+//! All processors with their channels, and the trace of what happened.
+#![tactic(auto)]
+
+mod channels;
+mod lines;
+
+pub use lines::Lines;
