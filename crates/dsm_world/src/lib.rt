@@ -3,5 +3,7 @@
 
 mod channels;
 mod lines;
+mod world;
 
 pub use lines::Lines;
+pub use world::World;

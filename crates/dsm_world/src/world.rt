@@ -1,0 +1,86 @@
+//! The world.
+
+ghost use Rattle.std.specs.Prelude.{◌≡◌, ◌+◌, ◌<◌, ℕ, IfOk, OnOk};
+
+use crate::channels::Channels;
+use dsm_base::{MemFault, Proc, Setup, Task, TaskMaker};
+use dsm_node::Node;
+use dsm_trace::{Body, Letter, Msg, Rec, Records, Sends, Trace};
+use sqlite_items::Items;
+use std::alloc::Global;
+use std::rc::Rc;
+
+/// All processors with their channels, and the trace of what happened.
+#[derive(Drop)]
+pub struct World<M: TaskMaker> {
+    alloc: Global,
+    setup: Rc<Setup>,
+    maker: M,
+    nodes: Vec<Node<M::Made>>,
+    channels: Channels,
+    sent: u32,
+    units: u32,
+    trace: Trace,
+}
+
+/// A copy of a body.
+fn body_copy(alloc: Global, body: &Body) -> Result<Body, MemFault>
+    ensures { IfOk result (λ copy. copy ≡ body.now) }
+{
+    Ok(match body {
+        Body::Req { lock, mode } => Body::Req {
+            lock: *lock,
+            mode: *mode,
+        },
+        Body::Grant { lock, mode, turn, version, cells } => Body::Grant {
+            lock: *lock,
+            mode: *mode,
+            turn: *turn,
+            version: *version,
+            cells: Items::from_slice(alloc, cells.as_slice())?,
+        },
+        Body::Release { lock, mode, version, cells } => Body::Release {
+            lock: *lock,
+            mode: *mode,
+            version: *version,
+            cells: Items::from_slice(alloc, cells.as_slice())?,
+        },
+    })
+}
+
+/// A copy of a message.
+fn message_copy(alloc: Global, msg: &Msg) -> Result<Msg, MemFault>
+    ensures { IfOk result (λ copy. copy ≡ msg.now) }
+{
+    Ok(Msg {
+        from: msg.from,
+        to: msg.to,
+        carry: msg.carry,
+        body: body_copy(alloc, &msg.body)?,
+    })
+}
+
+impl<M: TaskMaker> World<M> {
+    ghost use Rattle.dsm_trace.specs.declared.trace.Rec.{Rec};
+    ghost use Rattle.dsm_trace.specs.Told.{with_message};
+    ghost use Rattle.dsm_world.specs.World.{setup_of, shown, unnumbered, IsPosted, IsShaped, IsSameWorld};
+
+    /// A message is sent. Answers what the trace says of it.
+    fn post(&mut self, msg: Msg) -> Result<Rec, MemFault>
+        requires shape { IsShaped M.Made.state M.Made.semantics self.old }
+        requires msg { IsPosted (setup_of self.old) msg }
+        ensures sent { IfOk result (λ sent. sent ≡ Rec.Sent (self.old.sent + 1) msg) }
+        ensures shown { OnOk result (shown M.Made.state M.first self.new ≡ unnumbered (with_message (shown M.Made.state M.first self.old) (self.old.sent + 1) msg)) }
+        ensures shape { OnOk result (IsShaped M.Made.state M.Made.semantics self.new) }
+        ensures same { IsSameWorld self.old self.new }
+    {
+        let number = self.sent.checked_add(1).ok_or(MemFault)?;
+        let letter = Letter {
+            number,
+            msg: message_copy(self.alloc, &msg)?,
+        };
+        self.channels.push(msg.from.0 as usize, msg.to.0 as usize, letter)?;
+        self.sent = number;
+        Ok(Rec::Sent { number, msg })
+    }
+}
