@@ -3,11 +3,13 @@ use Rattle.std.specs.Prelude.{◌≡◌, ℕ, ◌+◌, ◌<◌, List, [], ◌∷
 use Rattle.std.specs.List.{All, slice_index_or}
 use Rattle.dsm_base.specs.declared.act.Act.{Act}
 use Rattle.dsm_base.specs.declared.setup.Setup.{Setup}
+use Rattle.dsm_base.specs.Family.{update}
 use Rattle.dsm_base.specs.Threads.{Semantics}
 use Rattle.dsm_trace.specs.declared.message.Letter.{Letter}
 use Rattle.dsm_trace.specs.declared.message.Msg.{Msg}
 use Rattle.dsm_trace.specs.declared.trace.Group.{Group}
-use Rattle.dsm_trace.specs.Processor.{Processor, start_processor}
+use Rattle.dsm_trace.specs.Processor.{Processor, Deed, start_processor, own_turn}
+use Rattle.dsm_trace.specs.Effects.{Effect, handled}
 use Rattle.dsm_trace.specs.Told.{Told, told_by}
 use Rattle.dsm_trace.specs.Fits.{FitsUnits}
 use Rattle.dsm_node.specs.Families.{family_of}
@@ -91,3 +93,15 @@ pub record IsSameWorld {M T S : Type 0} (old new : World M T S) : Type 0 where
   pub maker : new.maker ≡ old.maker
   pub trace : new.trace ≡ old.trace
   pub units : new.units ≡ old.units
+
+-- what is told with one processor replaced
+abbrev pub with_processor : {S : Type 0} → Told S → ℕ → Processor S → Told S
+with_processor t p s = record t { processors = update t.processors p s }
+
+-- the turn that a processor can make
+abbrev pub turn_of : {M T S : Type 0} → (T → S) → (M → ℕ → ℕ → S) → Semantics S → World M T S → ℕ → Option Deed
+turn_of state first threads world p = own_turn (setup_of world) threads p ((shown state first world).processors p)
+
+-- what the receiver of a message does with it
+abbrev pub handled_at : {S : Type 0} → Told S → Msg → Effect S
+handled_at t msg = handled msg.to.0 (t.processors msg.to.0) msg.from.0 msg.carry.turn msg.body

@@ -1,10 +1,11 @@
 //! The world.
 
-ghost use Rattle.std.specs.Prelude.{◌≡◌, ◌+◌, ◌<◌, ℕ, IfOk, OnOk};
+ghost use Rattle.std.specs.Prelude.{◌≡◌, ◌+◌, ◌<◌, ℕ, IfOk, IfSome, OnOk, ◌++◌};
+ghost use Rattle.std.specs.List.{All};
 
 use crate::channels::Channels;
 use dsm_base::{MemFault, Proc, Setup, Task, TaskMaker};
-use dsm_node::Node;
+use dsm_node::{Node, Stepped};
 use dsm_trace::{Body, Letter, Msg, Rec, Records, Sends, Trace};
 use sqlite_items::Items;
 use std::alloc::Global;
@@ -62,8 +63,10 @@ fn message_copy(alloc: Global, msg: &Msg) -> Result<Msg, MemFault>
 
 impl<M: TaskMaker> World<M> {
     ghost use Rattle.dsm_trace.specs.declared.trace.Rec.{Rec};
-    ghost use Rattle.dsm_trace.specs.Told.{with_message};
-    ghost use Rattle.dsm_world.specs.World.{setup_of, shown, unnumbered, IsPosted, IsShaped, IsSameWorld};
+    ghost use Rattle.dsm_trace.specs.Told.{with_message, told_records};
+    ghost use Rattle.dsm_trace.specs.Rows.{sent_records};
+    ghost use Rattle.dsm_node.specs.Node.{stepped_by, processor_stepped};
+    ghost use Rattle.dsm_world.specs.World.{setup_of, shown, unnumbered, with_processor, turn_of, handled_at, IsPosted, IsShaped, IsSameWorld};
 
     /// A message is sent. Answers what the trace says of it.
     fn post(&mut self, msg: Msg) -> Result<Rec, MemFault>
@@ -82,5 +85,47 @@ impl<M: TaskMaker> World<M> {
         self.channels.push(msg.from.0 as usize, msg.to.0 as usize, letter)?;
         self.sent = number;
         Ok(Rec::Sent { number, msg })
+    }
+
+    /// Messages are sent in their order, and the trace's records of them come after those before.
+    fn post_all(&mut self, mut sends: Sends, records: &mut Records) -> Result<(), MemFault>
+        requires shape { IsShaped M.Made.state M.Made.semantics self.old }
+        requires sends { All (IsPosted (setup_of self.old)) sends }
+        ensures records { OnOk result (records.new ≡ records.old ++ sent_records self.old.sent sends) }
+        ensures shown { OnOk result (shown M.Made.state M.first self.new ≡ unnumbered (told_records (setup_of self.old) M.Made.semantics (shown M.Made.state M.first self.old) (sent_records self.old.sent sends))) }
+        ensures shape { OnOk result (IsShaped M.Made.state M.Made.semantics self.new) }
+        ensures same { IsSameWorld self.old self.new }
+    {
+        while !sends.is_empty() {
+            let msg = sends.remove(0);
+            records.push(self.post(msg)?)?;
+        }
+        Ok(())
+    }
+
+    /// One turn of a processor, where its thread can make one.
+    fn turn(&mut self, proc: Proc) -> Result<Option<Stepped>, MemFault>
+        requires shape { IsShaped M.Made.state M.Made.semantics self.old }
+        requires proc { proc.0 < (setup_of self.old).procs }
+        ensures stepped { IfOk result (λ stepped. stepped ≡ stepped_by (setup_of self.old) M.Made.semantics proc.0 ((shown M.Made.state M.first self.old).processors proc.0) (turn_of M.Made.state M.first M.Made.semantics self.old proc.0)) }
+        ensures shown { OnOk result (shown M.Made.state M.first self.new ≡ with_processor (shown M.Made.state M.first self.old) proc.0 (processor_stepped (setup_of self.old) M.Made.semantics proc.0 ((shown M.Made.state M.first self.old).processors proc.0) (turn_of M.Made.state M.first M.Made.semantics self.old proc.0))) }
+        ensures sends { IfOk result (λ stepped. IfSome stepped (λ one. All (IsPosted (setup_of self.old)) one.sends)) }
+        ensures shape { OnOk result (IsShaped M.Made.state M.Made.semantics self.new) }
+        ensures same { IsSameWorld self.old self.new }
+    {
+        self.nodes[proc.0 as usize].step()
+    }
+
+    /// A processor handles a letter that is to it.
+    fn handle(&mut self, letter: &Letter) -> Result<Sends, MemFault>
+        requires shape { IsShaped M.Made.state M.Made.semantics self.old }
+        requires msg { IsPosted (setup_of self.old) letter.now.msg }
+        ensures sends { IfOk result (λ sends. sends ≡ (handled_at (shown M.Made.state M.first self.old) letter.now.msg).sends) }
+        ensures shown { OnOk result (shown M.Made.state M.first self.new ≡ with_processor (shown M.Made.state M.first self.old) letter.now.msg.to.0 (handled_at (shown M.Made.state M.first self.old) letter.now.msg).processor) }
+        ensures posted { IfOk result (λ sends. All (IsPosted (setup_of self.old)) sends) }
+        ensures shape { OnOk result (IsShaped M.Made.state M.Made.semantics self.new) }
+        ensures same { IsSameWorld self.old self.new }
+    {
+        self.nodes[letter.msg.to.0 as usize].receive(&letter.msg)
     }
 }
