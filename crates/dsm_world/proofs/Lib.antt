@@ -1,2 +1,3 @@
 pub mod UnderWay
 pub mod Nodes
+pub mod Sending
