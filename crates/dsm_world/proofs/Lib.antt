@@ -1,3 +1,4 @@
 pub mod UnderWay
 pub mod Nodes
 pub mod Sending
+pub mod Steps

@@ -1,8 +1,9 @@
 -- What a change of one channel leaves of the channels.
-use Rattle.std.proofs.Common.{◌≡◌, ◌<◌, ℕ, List, [], ◌∷◌, ◌++◌, length, get_or, set, refl, sym, ap, ◌∙◌, subst, inl, inr, arith, get_or-set_same, get_or-set_other, length-set}
+use Rattle.std.proofs.Common.{◌≡◌, ◌<◌, ℕ, List, [], ◌∷◌, ◌++◌, length, get_or, set, Option, Some, None, refl, sym, ap, ◌∙◌, subst, inl, inr, arith, get_or-set_same, get_or-set_other, length-set}
 use Rattle.std.proofs.lemmas.Bool.Decides.{eqb_tells}
+use Rattle.std.specs.Prelude.{MatchOption, IfSome}
 use Rattle.std.specs.List.{All}
-use Rattle.std.proofs.lemmas.List.Elements.{All-append, All-cons, All-nil}
+use Rattle.std.proofs.lemmas.List.Elements.{All-append, All-cons, All-nil, All-head, All-tail}
 use Rattle.dsm_base.specs.Family.{update, update_at}
 use Rattle.dsm_base.specs.declared.setup.Setup.{Setup}
 use Rattle.dsm_trace.specs.declared.message.Msg.{Msg}
@@ -51,3 +52,24 @@ pub one_more_letter : (setup : Setup) (letters : List Letter) (number : ℕ) (ms
 one_more_letter setup letters number msg posted all =
     All-append (IsLetterOf setup msg.from.0 msg.to.0) letters (record { number = number; msg = msg } ∷ []) all
       (All-cons (IsLetterOf setup msg.from.0 msg.to.0) record { number = number; msg = msg } [] record { is_from = refl; is_to = refl; names = posted.names } (All-nil (IsLetterOf setup msg.from.0 msg.to.0)))
+
+-- the oldest letter that is taken out, and what is left
+module _ (P : Letter → Type 0) where
+  pub popped : (result : Option Letter) (before now : List Letter) → MatchOption result ((before ≡ []) × (now ≡ [])) (λ letter. before ≡ letter ∷ now) → All P before → IfSome result P
+  popped None before now is all = tt
+  popped (Some letter) before now is all = All-head P letter now (subst (All P) is all)
+
+  pub left_over : (result : Option Letter) (before now : List Letter) → MatchOption result ((before ≡ []) × (now ≡ [])) (λ letter. before ≡ letter ∷ now) → All P before → All P now
+  left_over None before now is all = rw is.1 (All-nil P)
+  left_over (Some letter) before now is all = All-tail P letter now (subst (All P) is all)
+
+-- the channels after a change that is known by the new letters
+module _ (setup : Setup) (before now : List (List (List Letter))) (from to : ℕ) (is_from : from < setup.procs) (is_to : to < setup.procs) (are : AreChannels setup before) (others : now ≡ with_channel before from to (channel_of now from to)) where
+  pub under_way_replaced : channel_of now ≡ update_at (channel_of before) from to (channel_of now from to)
+  under_way_replaced =
+      let is_sender : from < length before = omega (arith, are.senders) in
+      let is_receiver : to < length (get_or before from []) = omega (arith, are.receivers from is_from) in
+      ap channel_of others ∙ channel_of_with before from to (channel_of now from to) is_sender is_receiver
+
+  pub channels_replaced : All (IsLetterOf setup from to) (channel_of now from to) → AreChannels setup now
+  channels_replaced all = subst (AreChannels setup) (sym others) (channels_with setup before from to (channel_of now from to) is_from is_to are all)

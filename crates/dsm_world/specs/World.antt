@@ -3,14 +3,15 @@ use Rattle.std.specs.Prelude.{◌≡◌, ℕ, ◌+◌, ◌<◌, List, [], ◌∷
 use Rattle.std.specs.List.{All, slice_index_or}
 use Rattle.dsm_base.specs.declared.act.Act.{Act}
 use Rattle.dsm_base.specs.declared.setup.Setup.{Setup}
-use Rattle.dsm_base.specs.Family.{update}
+use Rattle.dsm_base.specs.Family.{update, update_at}
 use Rattle.dsm_base.specs.Threads.{Semantics}
 use Rattle.dsm_trace.specs.declared.message.Letter.{Letter}
 use Rattle.dsm_trace.specs.declared.message.Msg.{Msg}
 use Rattle.dsm_trace.specs.declared.trace.Group.{Group}
 use Rattle.dsm_trace.specs.Processor.{Processor, Deed, start_processor, own_turn}
 use Rattle.dsm_trace.specs.Effects.{Effect, handled}
-use Rattle.dsm_trace.specs.Told.{Told, told_by}
+use Rattle.dsm_trace.specs.Told.{Told, told_records, told_by}
+use Rattle.dsm_trace.specs.Rows.{sent_records}
 use Rattle.dsm_trace.specs.Fits.{FitsUnits}
 use Rattle.dsm_node.specs.Families.{family_of}
 use Rattle.dsm_node.specs.Names.{BodyNames}
@@ -105,3 +106,14 @@ turn_of state first threads world p = own_turn (setup_of world) threads p ((show
 -- what the receiver of a message does with it
 abbrev pub handled_at : {S : Type 0} → Told S → Msg → Effect S
 handled_at t msg = handled msg.to.0 (t.processors msg.to.0) msg.from.0 msg.carry.turn msg.body
+
+-- what is told with other letters under way from one processor to another
+abbrev pub with_letters : {S : Type 0} → Told S → ℕ → ℕ → List Letter → Told S
+with_letters t p q letters = record t { under_way = update_at t.under_way p q letters }
+
+-- what is told after a delivery from p to q, by the oldest letter
+abbrev pub told_delivery : {S : Type 0} → Setup → Semantics S → Told S → ℕ → ℕ → List Letter → Told S
+told_delivery setup threads t p q [] = t
+told_delivery setup threads t p q (letter ∷ others) =
+    let effect = handled q (t.processors q) p letter.msg.carry.turn letter.msg.body in
+    told_records setup threads (with_processor (with_letters t p q others) q effect.processor) (sent_records t.sent effect.sends)

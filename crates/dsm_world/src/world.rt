@@ -1,10 +1,12 @@
 //! The world.
 
-ghost use Rattle.std.specs.Prelude.{◌≡◌, ◌+◌, ◌<◌, ℕ, IfOk, IfSome, OnOk, ◌++◌};
+ghost use Rattle.std.specs.Prelude.{◌≡◌, ◌+◌, ◌<◌, ℕ, IfOk, IfSome, IfNone, MatchOption, OnOk, ◌++◌, ◌∷◌, []};
+ghost use Rattle.dsm_trace.specs.Rows.{out_records};
 ghost use Rattle.std.specs.List.{All};
 
 use crate::channels::Channels;
-use dsm_base::{MemFault, Proc, Setup, Task, TaskMaker};
+use crate::lines::line_text;
+use dsm_base::{MemFault, Proc, Setup, TaskMaker, Text};
 use dsm_node::{Node, Stepped};
 use dsm_trace::{Body, Letter, Msg, Rec, Records, Sends, Trace};
 use sqlite_items::Items;
@@ -61,12 +63,22 @@ fn message_copy(alloc: Global, msg: &Msg) -> Result<Msg, MemFault>
     })
 }
 
+/// The line of a turn goes out, where it prints one.
+fn push_line(records: &mut Records, proc: Proc, turn: u32, text: Option<Text>) -> Result<(), MemFault>
+    ensures { OnOk result (records.new ≡ records.old ++ out_records proc.0 turn text) }
+{
+    if let Some(text) = text {
+        records.push(Rec::Out { proc, turn, text })?;
+    }
+    Ok(())
+}
+
 impl<M: TaskMaker> World<M> {
     ghost use Rattle.dsm_trace.specs.declared.trace.Rec.{Rec};
     ghost use Rattle.dsm_trace.specs.Told.{with_message, told_records};
-    ghost use Rattle.dsm_trace.specs.Rows.{sent_records};
+    ghost use Rattle.dsm_trace.specs.Rows.{sent_records, step_records, delivery_records};
     ghost use Rattle.dsm_node.specs.Node.{stepped_by, processor_stepped};
-    ghost use Rattle.dsm_world.specs.World.{setup_of, shown, unnumbered, with_processor, turn_of, handled_at, IsPosted, IsShaped, IsSameWorld};
+    ghost use Rattle.dsm_world.specs.World.{setup_of, shown, unnumbered, with_processor, with_letters, turn_of, handled_at, told_delivery, IsLetterOf, IsPosted, IsShaped, IsSameWorld};
 
     /// A message is sent. Answers what the trace says of it.
     fn post(&mut self, msg: Msg) -> Result<Rec, MemFault>
@@ -127,5 +139,67 @@ impl<M: TaskMaker> World<M> {
         ensures same { IsSameWorld self.old self.new }
     {
         self.nodes[letter.msg.to.0 as usize].receive(&letter.msg)
+    }
+
+    /// The oldest letter from one processor to another is taken out.
+    fn take_oldest(&mut self, from: Proc, to: Proc) -> Option<Letter>
+        requires shape { IsShaped M.Made.state M.Made.semantics self.old }
+        requires from { from.0 < (setup_of self.old).procs }
+        requires to { to.0 < (setup_of self.old).procs }
+        ensures letter { MatchOption result ((shown M.Made.state M.first self.old).under_way from.0 to.0 ≡ []) (λ letter. (shown M.Made.state M.first self.old).under_way from.0 to.0 ≡ letter ∷ (shown M.Made.state M.first self.new).under_way from.0 to.0) }
+        ensures named { IfSome result (IsLetterOf (setup_of self.old) from.0 to.0) }
+        ensures shown { shown M.Made.state M.first self.new ≡ with_letters (shown M.Made.state M.first self.old) from.0 to.0 ((shown M.Made.state M.first self.new).under_way from.0 to.0) }
+        ensures none { IfNone result (shown M.Made.state M.first self.new ≡ shown M.Made.state M.first self.old) }
+        ensures shape { IsShaped M.Made.state M.Made.semantics self.new }
+        ensures same { IsSameWorld self.old self.new }
+    {
+        self.channels.pop(from.0 as usize, to.0 as usize)
+    }
+
+    /// A step of a processor. Answers the records of its turn, where it makes one.
+    fn step(&mut self, proc: Proc) -> Result<Records, MemFault>
+        requires shape { IsShaped M.Made.state M.Made.semantics self.old }
+        requires proc { proc.0 < (setup_of self.old).procs }
+        ensures records { IfOk result (λ records. records ≡ step_records (setup_of self.old) M.Made.semantics (shown M.Made.state M.first self.old) proc.0 (turn_of M.Made.state M.first M.Made.semantics self.old proc.0)) }
+        ensures shown { OnOk result (shown M.Made.state M.first self.new ≡ unnumbered (told_records (setup_of self.old) M.Made.semantics (shown M.Made.state M.first self.old) (step_records (setup_of self.old) M.Made.semantics (shown M.Made.state M.first self.old) proc.0 (turn_of M.Made.state M.first M.Made.semantics self.old proc.0)))) }
+        ensures shape { OnOk result (IsShaped M.Made.state M.Made.semantics self.new) }
+        ensures same { IsSameWorld self.old self.new }
+    {
+        let mut records = Items::new(self.alloc);
+        let Some(Stepped { turn, label, cells, sends }) = self.turn(proc)? else {
+            return Ok(records);
+        };
+        let text = line_text(self.alloc, &label)?;
+        records.push(Rec::Turn {
+            proc,
+            turn,
+            label,
+            cells,
+        })?;
+        self.post_all(sends, &mut records)?;
+        push_line(&mut records, proc, turn, text)?;
+        Ok(records)
+    }
+
+    /// A delivery of the oldest letter. Answers the records of it, where there is one.
+    fn deliver(&mut self, from: Proc, to: Proc) -> Result<Records, MemFault>
+        requires shape { IsShaped M.Made.state M.Made.semantics self.old }
+        requires from { from.0 < (setup_of self.old).procs }
+        requires to { to.0 < (setup_of self.old).procs }
+        ensures records { IfOk result (λ records. records ≡ delivery_records (shown M.Made.state M.first self.old) to.0 ((shown M.Made.state M.first self.old).under_way from.0 to.0)) }
+        ensures shown { OnOk result (shown M.Made.state M.first self.new ≡ unnumbered (told_delivery (setup_of self.old) M.Made.semantics (shown M.Made.state M.first self.old) from.0 to.0 ((shown M.Made.state M.first self.old).under_way from.0 to.0))) }
+        ensures shape { OnOk result (IsShaped M.Made.state M.Made.semantics self.new) }
+        ensures same { IsSameWorld self.old self.new }
+    {
+        let mut records = Items::new(self.alloc);
+        let Some(letter) = self.take_oldest(from, to) else {
+            return Ok(records);
+        };
+        records.push(Rec::Delivered {
+            number: letter.number,
+        })?;
+        let sends = self.handle(&letter)?;
+        self.post_all(sends, &mut records)?;
+        Ok(records)
     }
 }
