@@ -16,11 +16,11 @@ use Rattle.dsm_world.specs.World.{unnumbered, with_processor, with_letters, hand
 
 module _ {S : Type 0} (setup : Setup) (threads : Semantics S) (told mid : Told S) (p : ℕ) where
   -- a turn, and the messages that it sends
-  pub step_told : (turn : Option Deed) (stepped : Stepped) (sends : List Msg) → stepped.sends ≡ sends → Some stepped ≡ stepped_by setup threads p (told.processors p) turn → mid ≡ with_processor told p (processor_stepped setup threads p (told.processors p) turn)
-      → unnumbered (told_records setup threads mid (sent_records mid.sent sends)) ≡ unnumbered (told_records setup threads told (step_records setup threads told p turn))
-  step_told None stepped sends are makes turns = cc
-  step_told (Some deed) stepped sends are makes turns =
-      let sent : sends ≡ (turned setup threads p (told.processors p) deed).sends = cc in
+  pub step_told : (turn : Option Deed) (stepped : Stepped) → Some stepped ≡ stepped_by setup threads p (told.processors p) turn → mid ≡ with_processor told p (processor_stepped setup threads p (told.processors p) turn)
+      → unnumbered (told_records setup threads mid (sent_records mid.sent stepped.sends)) ≡ unnumbered (told_records setup threads told (step_records setup threads told p turn))
+  step_told None stepped makes turns = cc
+  step_told (Some deed) stepped makes turns =
+      let sent : stepped.sends ≡ (turned setup threads p (told.processors p) deed).sends = cc in
       ap unnumbered ((λ i. told_records setup threads (turns i) (sent_records (turns i).sent (sent i)))
         ∙ told_sent setup threads (with_turn setup threads told p deed) (turned setup threads p (told.processors p) deed).sends
         ∙ sym (told_step setup threads told p (Some deed)))

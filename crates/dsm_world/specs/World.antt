@@ -7,11 +7,12 @@ use Rattle.dsm_base.specs.Family.{update, update_at}
 use Rattle.dsm_base.specs.Threads.{Semantics}
 use Rattle.dsm_trace.specs.declared.message.Letter.{Letter}
 use Rattle.dsm_trace.specs.declared.message.Msg.{Msg}
+use Rattle.dsm_trace.specs.declared.trace.Rec.{Rec}
 use Rattle.dsm_trace.specs.declared.trace.Group.{Group}
 use Rattle.dsm_trace.specs.Processor.{Processor, Deed, start_processor, own_turn}
 use Rattle.dsm_trace.specs.Effects.{Effect, handled}
 use Rattle.dsm_trace.specs.Told.{Told, told_records, told_by}
-use Rattle.dsm_trace.specs.Rows.{sent_records}
+use Rattle.dsm_trace.specs.Rows.{sent_records, unit_records}
 use Rattle.dsm_trace.specs.Fits.{FitsUnits}
 use Rattle.dsm_node.specs.Families.{family_of}
 use Rattle.dsm_node.specs.Names.{BodyNames}
@@ -117,3 +118,16 @@ told_delivery setup threads t p q [] = t
 told_delivery setup threads t p q (letter ∷ others) =
     let effect = handled q (t.processors q) p letter.msg.carry.turn letter.msg.body in
     told_records setup threads (with_processor (with_letters t p q others) q effect.processor) (sent_records t.sent effect.sends)
+
+-- the same after a unit
+abbrev pub told_unit : {S : Type 0} → Setup → Semantics S → Told S → Act → Told S
+told_unit setup threads t (Act.Step p) = told_records setup threads t (unit_records setup threads t (Act.Step p))
+told_unit setup threads t (Act.Deliver p q) = told_delivery setup threads t p.0 q.0 (t.under_way p.0 q.0)
+
+-- how many units were applied
+abbrev pub units_of : {M T S : Type 0} → World M T S → ℕ
+units_of world = world.units
+
+-- the records of one more unit
+abbrev pub records_of : {M T S : Type 0} → (M → ℕ → ℕ → S) → Semantics S → World M T S → Act → List Rec
+records_of first threads world act = unit_records (setup_of world) threads (told_in first threads world) act

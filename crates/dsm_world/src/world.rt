@@ -1,14 +1,15 @@
 //! The world.
 
-ghost use Rattle.std.specs.Prelude.{◌≡◌, ◌+◌, ◌<◌, ℕ, IfOk, IfSome, IfNone, MatchOption, OnOk, ◌++◌, ◌∷◌, []};
+ghost use Rattle.std.specs.Prelude.{◌≡◌, ◌+◌, ◌<◌, ℕ, IfOk, IfSome, IfNone, MatchOption, OnOk, OnErr, ◌++◌, ◌∷◌, [], reverse};
 ghost use Rattle.dsm_trace.specs.Rows.{out_records};
+ghost use Rattle.dsm_trace.specs.Fits.{with_unit};
 ghost use Rattle.std.specs.List.{All};
 
 use crate::channels::Channels;
-use crate::lines::line_text;
-use dsm_base::{MemFault, Proc, Setup, TaskMaker, Text};
+use crate::lines::{Lines, line_text, lines_of};
+use dsm_base::{Act, MemFault, Proc, Setup, TaskMaker, Text};
 use dsm_node::{Node, Stepped};
-use dsm_trace::{Body, Letter, Msg, Rec, Records, Sends, Trace};
+use dsm_trace::{Body, Group, Letter, Msg, Rec, Records, Sends, Trace};
 use sqlite_items::Items;
 use std::alloc::Global;
 use std::rc::Rc;
@@ -73,12 +74,25 @@ fn push_line(records: &mut Records, proc: Proc, turn: u32, text: Option<Text>) -
     Ok(())
 }
 
+/// Adds the records of a unit to the trace, where there are any.
+fn add_group(trace: &mut Trace, unit: u32, records: Records) -> Result<(), MemFault>
+    ensures ok { OnOk result (reverse trace.new ≡ with_unit unit records (reverse trace.old)) }
+    ensures err { OnErr result (trace.new ≡ trace.old) }
+{
+    if records.is_empty() {
+        return Ok(());
+    }
+    trace.push(Group { unit, records })
+}
+
 impl<M: TaskMaker> World<M> {
     ghost use Rattle.dsm_trace.specs.declared.trace.Rec.{Rec};
     ghost use Rattle.dsm_trace.specs.Told.{with_message, told_records};
-    ghost use Rattle.dsm_trace.specs.Rows.{sent_records, step_records, delivery_records};
+    ghost use Rattle.dsm_trace.specs.Rows.{sent_records, step_records, delivery_records, unit_records};
+    ghost use Rattle.dsm_trace.specs.Fits.{IsWithin};
+    ghost use Rattle.dsm_world.specs.Lines.{lines_of};
     ghost use Rattle.dsm_node.specs.Node.{stepped_by, processor_stepped};
-    ghost use Rattle.dsm_world.specs.World.{setup_of, shown, unnumbered, with_processor, with_letters, turn_of, handled_at, told_delivery, IsLetterOf, IsPosted, IsShaped, IsSameWorld};
+    ghost use Rattle.dsm_world.specs.World.{setup_of, shown, unnumbered, with_processor, with_letters, turn_of, handled_at, told_delivery, told_unit, groups_of, units_of, first_of, records_of, IsLetterOf, IsPosted, IsShaped, IsWhole, IsSameWorld};
 
     /// A message is sent. Answers what the trace says of it.
     fn post(&mut self, msg: Msg) -> Result<Rec, MemFault>
@@ -201,5 +215,41 @@ impl<M: TaskMaker> World<M> {
         let sends = self.handle(&letter)?;
         self.post_all(sends, &mut records)?;
         Ok(records)
+    }
+
+    /// What happens in one unit. Answers its records.
+    fn unit(&mut self, act: Act) -> Result<Records, MemFault>
+        requires shape { IsShaped M.Made.state M.Made.semantics self.old }
+        requires act { IsWithin (setup_of self.old) act }
+        ensures records { IfOk result (λ records. records ≡ unit_records (setup_of self.old) M.Made.semantics (shown M.Made.state M.first self.old) act) }
+        ensures shown { OnOk result (shown M.Made.state M.first self.new ≡ unnumbered (told_unit (setup_of self.old) M.Made.semantics (shown M.Made.state M.first self.old) act)) }
+        ensures shape { OnOk result (IsShaped M.Made.state M.Made.semantics self.new) }
+        ensures same { IsSameWorld self.old self.new }
+    {
+        match act {
+            Act::Step(proc) => self.step(proc),
+            Act::Deliver(from, to) => self.deliver(from, to),
+        }
+    }
+
+    /// One more unit. Answers the lines that go out in it. After an error the trace is as before, and
+    /// the world may only tell it, give it up or be dropped.
+    pub fn apply(&mut self, act: Act) -> Result<Lines, MemFault>
+        requires whole { IsWhole M.Made.state M.first M.Made.semantics self.old }
+        requires act { IsWithin (setup_of self.old) act }
+        ensures trace { OnOk result (groups_of self.new ≡ with_unit (units_of self.old + 1) (records_of M.first M.Made.semantics self.old act) (groups_of self.old)) }
+        ensures units { OnOk result (units_of self.new ≡ units_of self.old + 1) }
+        ensures lines { IfOk result (λ lines. lines ≡ lines_of (records_of M.first M.Made.semantics self.old act)) }
+        ensures whole { OnOk result (IsWhole M.Made.state M.first M.Made.semantics self.new) }
+        ensures err { OnErr result (groups_of self.new ≡ groups_of self.old) }
+        ensures setup { setup_of self.new ≡ setup_of self.old }
+        ensures first { first_of M.first self.new ≡ first_of M.first self.old }
+    {
+        let unit = self.units.checked_add(1).ok_or(MemFault)?;
+        let records = self.unit(act)?;
+        let lines = lines_of(self.alloc, &records)?;
+        add_group(&mut self.trace, unit, records)?;
+        self.units = unit;
+        Ok(lines)
     }
 }

@@ -1,4 +1,4 @@
-use Rattle.std.proofs.Common.{◌≡◌, ◌∙◌, ap, sym, refl}
+use Rattle.std.proofs.Common.{◌≡◌, ◌∙◌, ap, sym}
 use Rattle.dsm_trace.specs.Rows.{sent_records}
 use Rattle.dsm_trace.specs.Told.{told_records}
 use Rattle.dsm_node.specs.Node.{stepped_by}
@@ -15,4 +15,4 @@ returns-clause-shown g c =
     let mid = shown state first c.turn.new.self in
     c.in_ok-post_all.ensures.shown
     ∙ ap (λ setup. unnumbered (told_records setup threads mid (sent_records mid.sent c.in-Some.field-0.sends))) c.turn.ensures.same.setup
-    ∙ step_told (setup_of world) threads (shown state first world) mid c.args.proc.0 (turn_of state first threads world c.args.proc.0) c.in-Some.field-0 c.in-Some.field-0.sends refl (sym c.in-Some.is ∙ c.in_ok-turn.ensures.stepped) c.in_ok-turn.ensures.shown
+    ∙ step_told (setup_of world) threads (shown state first world) mid c.args.proc.0 (turn_of state first threads world c.args.proc.0) c.in-Some.field-0 (sym c.in-Some.is ∙ c.in_ok-turn.ensures.stepped) c.in_ok-turn.ensures.shown
