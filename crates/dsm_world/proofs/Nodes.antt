@@ -14,7 +14,8 @@ use Rattle.dsm_node.specs.Node as nodes
 use Rattle.dsm_node.specs.Node.{processor_of, processor_stepped, IsWhole, IsSameNode}
 use Rattle.dsm_node.specs.declared.node.Node.{Node}
 use Rattle.dsm_node.proofs.Families.{family_of_set}
-use Rattle.dsm_world.specs.World.{setup_of, first_of, shown, with_processor, turn_of, IsNodeOf, IsShaped}
+use Rattle.dsm_world.specs.World.{setup_of, first_of, shown, with_processor, turn_of, IsShaped}
+use Rattle.dsm_world.specs.Nodes.{IsNodeOf}
 use Rattle.dsm_world.specs.declared.world.World.{World}
 
 module _ {M T S : Type 0} (state : T → S) (first : M → ℕ → ℕ → S) (threads : Semantics S) (world : World M T S) (p : ℕ) (is_node : p < length world.nodes.items) where

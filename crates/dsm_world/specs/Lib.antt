@@ -1,3 +1,4 @@
 pub mod Channels
 pub mod Lines
+pub mod Nodes
 pub mod World

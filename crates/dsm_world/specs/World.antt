@@ -16,10 +16,10 @@ use Rattle.dsm_trace.specs.Rows.{sent_records, unit_records}
 use Rattle.dsm_trace.specs.Fits.{FitsUnits}
 use Rattle.dsm_node.specs.Families.{family_of}
 use Rattle.dsm_node.specs.Names.{BodyNames}
-use Rattle.dsm_node.specs.Node as nodes
 use Rattle.dsm_node.specs.Node.{processor_of}
 use Rattle.dsm_node.specs.declared.node.Node.{Node}
 use Rattle.dsm_world.specs.Channels.{channel_of}
+use Rattle.dsm_world.specs.Nodes.{IsNodeOf}
 use Rattle.dsm_world.specs.declared.world.World.{World}
 
 abbrev pub setup_of : {M T S : Type 0} → World M T S → Setup
@@ -49,12 +49,6 @@ shown state first world = record {
   under_way = channel_of world.channels;
   sent = world.sent;
 }
-
--- it is the processor of this number, and whole
-pub record IsNodeOf {T S : Type 0} (state : T → S) (threads : Semantics S) (setup : Setup) (p : ℕ) (node : Node T S) : Type 0 where
-  pub whole : nodes.IsWhole state threads node
-  pub is_setup : nodes.setup_of node ≡ setup
-  pub is_me : nodes.me_of node ≡ p
 
 -- a message from one processor of the setup to another, which names what is of it
 pub record IsPosted (setup : Setup) (msg : Msg) : Type 0 where

@@ -3,6 +3,10 @@
 ghost use Rattle.std.specs.Prelude.{◌≡◌, ◌+◌, ◌<◌, ℕ, IfOk, IfSome, IfNone, MatchOption, OnOk, OnErr, ◌++◌, ◌∷◌, [], reverse};
 ghost use Rattle.dsm_trace.specs.Rows.{out_records};
 ghost use Rattle.dsm_trace.specs.Fits.{with_unit};
+ghost use Rattle.dsm_base.specs.Threads.{StaysWithin};
+ghost use Rattle.dsm_trace.specs.Processor.{start_processor};
+ghost use Rattle.dsm_node.specs.Node.{processor_of};
+ghost use Rattle.dsm_world.specs.Nodes.{IsNodeOf, AreStartNodes};
 ghost use Rattle.std.specs.List.{All};
 
 use crate::channels::Channels;
@@ -85,6 +89,29 @@ fn add_group(trace: &mut Trace, unit: u32, records: Records) -> Result<(), MemFa
     trace.push(Group { unit, records })
 }
 
+/// A processor of the setup before its first turn.
+fn start_node<M: TaskMaker>(alloc: Global, setup: &Rc<Setup>, maker: &M, me: Proc) -> Result<Node<M::Made>, MemFault>
+    requires me { me.0 < setup.now.value.procs }
+    requires stays { StaysWithin setup.now.value M.Made.semantics (M.first maker.now setup.now.value.procs me.0) }
+    ensures node { IfOk result (IsNodeOf M.Made.state M.Made.semantics setup.now.value me.0) }
+    ensures processor { IfOk result (λ node. processor_of M.Made.state node ≡ start_processor setup.now.value (M.first maker.now setup.now.value.procs) me.0) }
+{
+    let task = maker.start(alloc, me, setup.procs)?;
+    Node::start(alloc, setup.clone()?, me, task)
+}
+
+/// The processors of the setup before their first turns.
+fn start_nodes<M: TaskMaker>(alloc: Global, setup: &Rc<Setup>, maker: &M) -> Result<Vec<Node<M::Made>>, MemFault>
+    requires { (p : ℕ) → p < setup.now.value.procs → StaysWithin setup.now.value M.Made.semantics (M.first maker.now setup.now.value.procs p) }
+    ensures { IfOk result (λ nodes. AreStartNodes M.Made.state M.Made.semantics setup.now.value (M.first maker.now setup.now.value.procs) setup.now.value.procs nodes.items) }
+{
+    let mut nodes = Vec::new(alloc);
+    for me in 0..setup.procs {
+        nodes.push(start_node(alloc, setup, maker, Proc(me))?)?;
+    }
+    Ok(nodes)
+}
+
 impl<M: TaskMaker> World<M> {
     ghost use Rattle.dsm_trace.specs.declared.trace.Rec.{Rec};
     ghost use Rattle.dsm_trace.specs.Told.{with_message, told_records};
@@ -93,6 +120,30 @@ impl<M: TaskMaker> World<M> {
     ghost use Rattle.dsm_world.specs.Lines.{lines_of};
     ghost use Rattle.dsm_node.specs.Node.{stepped_by, processor_stepped};
     ghost use Rattle.dsm_world.specs.World.{setup_of, shown, unnumbered, with_processor, with_letters, turn_of, handled_at, told_delivery, told_unit, groups_of, units_of, first_of, records_of, IsLetterOf, IsPosted, IsShaped, IsWhole, IsSameWorld};
+
+    /// All processors before their first turns. `Memory` for want of memory.
+    pub fn new(alloc: Global, setup: Rc<Setup>, maker: M) -> Result<World<M>, MemFault>
+        requires procs { 0 < setup.value.procs }
+        requires stays { (p : ℕ) → p < setup.value.procs → StaysWithin setup.value M.Made.semantics (M.first maker setup.value.procs p) }
+        ensures whole { IfOk result (IsWhole M.Made.state M.first M.Made.semantics) }
+        ensures trace { IfOk result (λ world. groups_of world ≡ []) }
+        ensures units { IfOk result (λ world. units_of world ≡ 0) }
+        ensures setup { IfOk result (λ world. setup_of world ≡ setup.value) }
+        ensures first { IfOk result (λ world. first_of M.first world ≡ M.first maker setup.value.procs) }
+    {
+        let nodes = start_nodes(alloc, &setup, &maker)?;
+        let channels = Channels::new(alloc, usize::from(setup.procs))?;
+        Ok(World {
+            alloc,
+            setup,
+            maker,
+            nodes,
+            channels,
+            sent: 0,
+            units: 0,
+            trace: Trace::new(alloc),
+        })
+    }
 
     /// A message is sent. Answers what the trace says of it.
     fn post(&mut self, msg: Msg) -> Result<Rec, MemFault>
@@ -251,5 +302,26 @@ impl<M: TaskMaker> World<M> {
         add_group(&mut self.trace, unit, records)?;
         self.units = unit;
         Ok(lines)
+    }
+
+    /// The trace of the units that were applied.
+    pub fn trace(&self) -> &Trace
+        ensures { reverse result.now ≡ groups_of self.now }
+    {
+        &self.trace
+    }
+
+    /// The same trace, in place of the world.
+    pub fn into_trace(self) -> Trace
+        ensures { reverse result ≡ groups_of self }
+    {
+        self.trace
+    }
+
+    /// How many units were applied.
+    pub fn units(&self) -> u32
+        ensures { result ≡ units_of self.now }
+    {
+        self.units
     }
 }
