@@ -1,15 +1,15 @@
 -- What one more unit leaves of the world.
-use Rattle.std.proofs.Common.{◌≡◌, ◌+◌, ◌<◌, ℕ, List, [], ◌∷◌, ◌++◌, length, reverse, Option, Some, None, refl, sym, ap, ◌∙◌, subst, arith}
+use Rattle.std.proofs.Common.{◌≡◌, ◌+◌, ℕ, List, [], ◌∷◌, length, reverse, Option, Some, None, refl, sym, ap, ◌∙◌, subst, arith}
 use Rattle.dsm_base.specs.declared.act.Act.{Act}
 use Rattle.dsm_base.specs.declared.setup.Setup.{Setup}
 use Rattle.dsm_base.specs.Threads.{Semantics}
 use Rattle.dsm_trace.specs.declared.message.Letter.{Letter}
 use Rattle.dsm_trace.specs.declared.message.Msg.{Msg}
 use Rattle.dsm_trace.specs.declared.trace.Group.{Group}
-use Rattle.dsm_trace.specs.Processor.{Processor, Deed, own_turn}
+use Rattle.dsm_trace.specs.Processor.{Deed, own_turn}
 use Rattle.dsm_trace.specs.Effects.{handled, turned}
-use Rattle.dsm_trace.specs.Rows.{sent_records, step_records, delivery_records, unit_records}
-use Rattle.dsm_trace.specs.Told.{Told, with_message, told_records, told_by}
+use Rattle.dsm_trace.specs.Rows.{step_records, delivery_records, unit_records}
+use Rattle.dsm_trace.specs.Told.{Told, with_message, told_by}
 use Rattle.dsm_trace.specs.Fits.{FitsUnits, with_unit}
 use Rattle.dsm_trace.proofs.Numbered.{IsNumbered}
 use Rattle.dsm_trace.proofs.Units.{sent_all, with_turn, with_letter, next_by_step, next_by_delivery, next_told, told_sent, told_step, told_by_unit, trace_numbered}

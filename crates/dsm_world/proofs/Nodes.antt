@@ -1,11 +1,10 @@
 -- What a change of one processor leaves of the world.
-use Rattle.std.proofs.Common.{◌≡◌, ◌<◌, ℕ, List, length, get_or, set, map, refl, sym, ap, ◌∙◌, subst, inl, inr, arith}
+use Rattle.std.proofs.Common.{◌≡◌, ◌<◌, ℕ, length, get_or, set, map, sym, ap, ◌∙◌, subst, inl, inr}
 use Rattle.std.specs.Vec.{with_item}
 use Rattle.std.proofs.lemmas.List.{map-set, get_or-set_same, get_or-set_other, get_or-map, length-map, length-set}
 use Rattle.std.proofs.lemmas.Bool.Decides.{eqb_tells}
-use Rattle.dsm_base.specs.Family.{update}
 use Rattle.dsm_base.specs.Threads.{Semantics}
-use Rattle.dsm_trace.specs.Processor.{Processor, start_processor, own_turn}
+use Rattle.dsm_trace.specs.Processor.{start_processor, own_turn}
 use Rattle.dsm_trace.specs.Effects.{handled}
 use Rattle.dsm_trace.specs.declared.message.Msg.{Msg}
 use Rattle.dsm_node.specs.Families.{family_of}
@@ -35,10 +34,10 @@ module _ {M T S : Type 0} (state : T → S) (first : M → ℕ → ℕ → S) (t
     some = shape.some;
     count = length-set world.nodes.items p node ∙ shape.count;
     nodes = λ q default within.
-      elim (eqb_tells q p) [
-        | inl (_, same) ↦ subst (λ k. IsNodeOf state threads (setup_of world) k (get_or (set world.nodes.items p node) k default)) (sym same) (rw (get_or-set_same world.nodes.items p node default is_node) is)
-        | inr (_, differs) ↦ rw (get_or-set_other world.nodes.items p q node default differs) (shape.nodes q default within)
-      ];
+        elim (eqb_tells q p) [
+          | inl (_, same) ↦ subst (λ k. IsNodeOf state threads (setup_of world) k (get_or (set world.nodes.items p node) k default)) (sym same) (rw (get_or-set_same world.nodes.items p node default is_node) is)
+          | inr (_, differs) ↦ rw (get_or-set_other world.nodes.items p q node default differs) (shape.nodes q default within)
+        ];
     channels = shape.channels;
   }
 

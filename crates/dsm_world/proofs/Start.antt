@@ -1,6 +1,5 @@
 -- The world before its first unit.
-use Rattle.std.proofs.Common.{◌≡◌, ◌<◌, ◌≤◌, ◌+◌, ℕ, zero, suc, List, [], ◌∷◌, ◌++◌, length, get_or, map, replicate, reverse, refl, sym, ap, ◌∙◌, subst, arith, inl, inr, length-append}
-use Rattle.std.specs.List.{All}
+use Rattle.std.proofs.Common.{◌≡◌, ◌<◌, ◌+◌, ℕ, zero, suc, List, [], ◌∷◌, ◌++◌, length, get_or, map, replicate, reverse, refl, sym, ap, ◌∙◌, subst, arith, inl, inr, length-append}
 use Rattle.std.proofs.lemmas.List.{map_push, length-map, length-replicate, get_or-replicate, get_or_append_left, get_or_push}
 use Rattle.std.proofs.lemmas.List.Elements.{All-nil}
 use Rattle.std.proofs.lemmas.Bool.{cases_lt}
@@ -8,7 +7,7 @@ use Rattle.dsm_base.specs.declared.setup.Setup.{Setup}
 use Rattle.dsm_base.specs.Threads.{Semantics}
 use Rattle.dsm_trace.specs.declared.message.Letter.{Letter}
 use Rattle.dsm_trace.specs.declared.trace.Group.{Group}
-use Rattle.dsm_trace.specs.Processor.{Processor, start_processor}
+use Rattle.dsm_trace.specs.Processor.{start_processor}
 use Rattle.dsm_trace.specs.Told.{told_by}
 use Rattle.dsm_node.specs.Families.{family_of}
 use Rattle.dsm_node.specs.Node.{processor_of}
@@ -16,7 +15,7 @@ use Rattle.dsm_node.specs.declared.node.Node.{Node}
 use Rattle.dsm_node.proofs.Families.{family_of_push, family_of_replicate}
 use Rattle.dsm_world.specs.Channels.{channel_of}
 use Rattle.dsm_world.specs.Nodes.{IsNodeOf, AreStartNodes}
-use Rattle.dsm_world.specs.World.{setup_of, first_of, groups_of, shown, told_in, unnumbered, IsLetterOf, AreChannels, IsWhole}
+use Rattle.dsm_world.specs.World.{setup_of, first_of, shown, unnumbered, IsLetterOf, AreChannels, IsWhole}
 use Rattle.dsm_world.specs.declared.world.World.{World}
 
 -- one more processor
@@ -25,15 +24,15 @@ pub start_more : {T S : Type 0} (state : T → S) (threads : Semantics S) (setup
 start_more state threads setup first count nodes now node are is starts more = rw more record {
   count_is = omega (arith, length-append nodes (node ∷ []), are.count_is);
   each = λ p default within.
-    elim (cases_lt p (length nodes)) [
-      | inl below ↦ rw (get_or_append_left nodes (node ∷ []) default p below) (are.each p default (omega (arith, are.count_is)))
-      | inr above ↦
-        let last : p ≡ count = omega (arith, are.count_is) in
-        rw (get_or_push nodes node default p (omega (arith, are.count_is))) (subst (λ k. IsNodeOf state threads setup k node) (sym last) is)
-    ];
+      elim (cases_lt p (length nodes)) [
+        | inl below ↦ rw (get_or_append_left nodes (node ∷ []) default p below) (are.each p default (omega (arith, are.count_is)))
+        | inr above ↦
+            let last : p ≡ count = omega (arith, are.count_is) in
+            rw (get_or_push nodes node default p (omega (arith, are.count_is))) (subst (λ k. IsNodeOf state threads setup k node) (sym last) is)
+      ];
   starts = λ p.
-    ap (λ ps. family_of (start_processor setup first) ps p) (map_push (processor_of state) nodes node)
-    ∙ family_of_push (start_processor setup first) (map (processor_of state) nodes) (processor_of state node)
+      ap (λ ps. family_of (start_processor setup first) ps p) (map_push (processor_of state) nodes node)
+      ∙ family_of_push (start_processor setup first) (map (processor_of state) nodes) (processor_of state node)
       (starts ∙ ap (start_processor setup first) (sym (length-map nodes (processor_of state) ∙ are.count_is))) are.starts p;
 }
 
@@ -62,9 +61,9 @@ start_whole state first threads world some nodes channels sent units trace = rec
   fits = ap reverse trace;
   units = sym units;
   shows = (λ i. record (shown state first world) {
-      processors = λ p. nodes.starts p i;
-      under_way = λ p q. (ap (λ all. channel_of all p q) channels ∙ nothing_under_way (setup_of world).procs (setup_of world).procs p q) i;
-      sent = sent i;
-    })
-    ∙ ap (λ (groups : List Group). unnumbered (told_by (setup_of world) (first_of first world) threads (reverse groups))) (sym trace);
+    processors = λ p. nodes.starts p i;
+    under_way = λ p q. (ap (λ all. channel_of all p q) channels ∙ nothing_under_way (setup_of world).procs (setup_of world).procs p q) i;
+    sent = sent i;
+  })
+      ∙ ap (λ (groups : List Group). unnumbered (told_by (setup_of world) (first_of first world) threads (reverse groups))) (sym trace);
 }

@@ -1,11 +1,11 @@
 -- What a step and a delivery leave of what is told, and their records.
-use Rattle.std.proofs.Common.{◌≡◌, ◌+◌, ◌==◌, ℕ, List, [], ◌∷◌, ◌++◌, Option, Some, None, refl, sym, ap, ◌∙◌}
+use Rattle.std.proofs.Common.{◌≡◌, ℕ, List, ◌∷◌, Option, Some, None, sym, ap, ◌∙◌}
 use Rattle.dsm_base.specs.declared.setup.Setup.{Setup}
 use Rattle.dsm_base.specs.Threads.{Semantics}
 use Rattle.dsm_trace.specs.declared.message.Letter.{Letter}
 use Rattle.dsm_trace.specs.declared.message.Msg.{Msg}
 use Rattle.dsm_trace.specs.declared.trace.Rec.{Rec}
-use Rattle.dsm_trace.specs.Processor.{Processor, Deed}
+use Rattle.dsm_trace.specs.Processor.{Deed}
 use Rattle.dsm_trace.specs.Effects.{Effect, handled, turned}
 use Rattle.dsm_trace.specs.Rows.{sent_records, step_records, delivery_records}
 use Rattle.dsm_trace.specs.Told.{Told, told_records}
@@ -22,8 +22,8 @@ module _ {S : Type 0} (setup : Setup) (threads : Semantics S) (told mid : Told S
   step_told (Some deed) stepped makes turns =
       let sent : stepped.sends ≡ (turned setup threads p (told.processors p) deed).sends = cc in
       ap unnumbered ((λ i. told_records setup threads (turns i) (sent_records (turns i).sent (sent i)))
-        ∙ told_sent setup threads (with_turn setup threads told p deed) (turned setup threads p (told.processors p) deed).sends
-        ∙ sym (told_step setup threads told p (Some deed)))
+      ∙ told_sent setup threads (with_turn setup threads told p deed) (turned setup threads p (told.processors p) deed).sends
+      ∙ sym (told_step setup threads told p (Some deed)))
 
 module _ {S : Type 0} (setup : Setup) (threads : Semantics S) (told mid after : Told S) (p q : ℕ) (letter : Letter) (others : List Letter) (sends : List Msg)
     (list : told.under_way p q ≡ letter ∷ others) (is : IsLetterOf setup p q letter) (taken : mid ≡ with_letters told p q others)

@@ -2,3 +2,4 @@ pub mod Channels
 pub mod Lines
 pub mod Nodes
 pub mod World
+pub mod Finished

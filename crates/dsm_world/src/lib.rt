@@ -6,4 +6,4 @@ mod lines;
 mod world;
 
 pub use lines::Lines;
-pub use world::World;
+pub use world::{Finished, World};

@@ -1,22 +1,35 @@
 //! The world.
 
-ghost use Rattle.std.specs.Prelude.{◌≡◌, ◌+◌, ◌<◌, ℕ, IfOk, IfSome, IfNone, MatchOption, OnOk, OnErr, ◌++◌, ◌∷◌, [], reverse};
+ghost use Rattle.std.specs.Prelude.{◌≡◌, ◌+◌, ◌<◌, ℕ, IfOk, IfSome, IfNone, MatchOption, OnOk, OnErr, is_some, ◌++◌, ◌∷◌, [], reverse};
 ghost use Rattle.dsm_trace.specs.Rows.{out_records};
 ghost use Rattle.dsm_trace.specs.Fits.{with_unit};
 ghost use Rattle.dsm_base.specs.Threads.{StaysWithin};
 ghost use Rattle.dsm_trace.specs.Processor.{start_processor};
 ghost use Rattle.dsm_node.specs.Node.{processor_of};
+ghost use Rattle.std.specs.List.{list_all};
 ghost use Rattle.dsm_world.specs.Nodes.{IsNodeOf, AreStartNodes};
+ghost use Rattle.dsm_world.specs.Finished.{is_ended};
 ghost use Rattle.std.specs.List.{All};
 
 use crate::channels::Channels;
 use crate::lines::{Lines, line_text, lines_of};
-use dsm_base::{Act, MemFault, Proc, Setup, TaskMaker, Text};
+use dsm_base::{Act, Ending, MemFault, Proc, Setup, Task, TaskMaker, Text};
 use dsm_node::{Node, Stepped};
 use dsm_trace::{Body, Group, Letter, Msg, Rec, Records, Sends, Trace};
 use sqlite_items::Items;
 use std::alloc::Global;
 use std::rc::Rc;
+
+/// How far the threads have come.
+#[derive(Clone, Copy, Debug, PartialEq, Eq)]
+pub enum Finished {
+    /// Each has ended.
+    Done,
+    /// Each has ended or stopped, and some have stopped.
+    Stopped,
+    /// Some have neither ended nor stopped.
+    Unfinished,
+}
 
 /// All processors with their channels, and the trace of what happened.
 #[derive(Drop)]
@@ -40,14 +53,25 @@ fn body_copy(alloc: Global, body: &Body) -> Result<Body, MemFault>
             lock: *lock,
             mode: *mode,
         },
-        Body::Grant { lock, mode, turn, version, cells } => Body::Grant {
+        Body::Grant {
+            lock,
+            mode,
+            turn,
+            version,
+            cells,
+        } => Body::Grant {
             lock: *lock,
             mode: *mode,
             turn: *turn,
             version: *version,
             cells: Items::from_slice(alloc, cells.as_slice())?,
         },
-        Body::Release { lock, mode, version, cells } => Body::Release {
+        Body::Release {
+            lock,
+            mode,
+            version,
+            cells,
+        } => Body::Release {
             lock: *lock,
             mode: *mode,
             version: *version,
@@ -69,7 +93,12 @@ fn message_copy(alloc: Global, msg: &Msg) -> Result<Msg, MemFault>
 }
 
 /// The line of a turn goes out, where it prints one.
-fn push_line(records: &mut Records, proc: Proc, turn: u32, text: Option<Text>) -> Result<(), MemFault>
+fn push_line(
+    records: &mut Records,
+    proc: Proc,
+    turn: u32,
+    text: Option<Text>,
+) -> Result<(), MemFault>
     ensures { OnOk result (records.new ≡ records.old ++ out_records proc.0 turn text) }
 {
     if let Some(text) = text {
@@ -90,7 +119,12 @@ fn add_group(trace: &mut Trace, unit: u32, records: Records) -> Result<(), MemFa
 }
 
 /// A processor of the setup before its first turn.
-fn start_node<M: TaskMaker>(alloc: Global, setup: &Rc<Setup>, maker: &M, me: Proc) -> Result<Node<M::Made>, MemFault>
+fn start_node<M: TaskMaker>(
+    alloc: Global,
+    setup: &Rc<Setup>,
+    maker: &M,
+    me: Proc,
+) -> Result<Node<M::Made>, MemFault>
     requires me { me.0 < setup.now.value.procs }
     requires stays { StaysWithin setup.now.value M.Made.semantics (M.first maker.now setup.now.value.procs me.0) }
     ensures node { IfOk result (IsNodeOf M.Made.state M.Made.semantics setup.now.value me.0) }
@@ -101,7 +135,11 @@ fn start_node<M: TaskMaker>(alloc: Global, setup: &Rc<Setup>, maker: &M, me: Pro
 }
 
 /// The processors of the setup before their first turns.
-fn start_nodes<M: TaskMaker>(alloc: Global, setup: &Rc<Setup>, maker: &M) -> Result<Vec<Node<M::Made>>, MemFault>
+fn start_nodes<M: TaskMaker>(
+    alloc: Global,
+    setup: &Rc<Setup>,
+    maker: &M,
+) -> Result<Vec<Node<M::Made>>, MemFault>
     requires { (p : ℕ) → p < setup.now.value.procs → StaysWithin setup.now.value M.Made.semantics (M.first maker.now setup.now.value.procs p) }
     ensures { IfOk result (λ nodes. AreStartNodes M.Made.state M.Made.semantics setup.now.value (M.first maker.now setup.now.value.procs) setup.now.value.procs nodes.items) }
 {
@@ -112,12 +150,30 @@ fn start_nodes<M: TaskMaker>(alloc: Global, setup: &Rc<Setup>, maker: &M) -> Res
     Ok(nodes)
 }
 
+/// Whether each thread has ended.
+fn all_ended<T: Task>(nodes: &[Node<T>]) -> bool
+    ensures { result ≡ list_all (λ node. is_ended (processor_of T.state node).ending) nodes.now }
+{
+    nodes
+        .iter()
+        .all(|node| node.ending() == Some(Ending::Ended))
+}
+
+/// Whether each thread has ended or stopped.
+fn all_over<T: Task>(nodes: &[Node<T>]) -> bool
+    ensures { result ≡ list_all (λ node. is_some (processor_of T.state node).ending) nodes.now }
+{
+    nodes.iter().all(|node| node.ending().is_some())
+}
+
 impl<M: TaskMaker> World<M> {
     ghost use Rattle.dsm_trace.specs.declared.trace.Rec.{Rec};
     ghost use Rattle.dsm_trace.specs.Told.{with_message, told_records};
     ghost use Rattle.dsm_trace.specs.Rows.{sent_records, step_records, delivery_records, unit_records};
     ghost use Rattle.dsm_trace.specs.Fits.{IsWithin};
+    ghost use Rattle.dsm_trace.specs.History.{deeds_of, ending_of};
     ghost use Rattle.dsm_world.specs.Lines.{lines_of};
+    ghost use Rattle.dsm_world.specs.Finished.{finished_by};
     ghost use Rattle.dsm_node.specs.Node.{stepped_by, processor_stepped};
     ghost use Rattle.dsm_world.specs.World.{setup_of, shown, unnumbered, with_processor, with_letters, turn_of, handled_at, told_delivery, told_unit, groups_of, units_of, first_of, records_of, IsLetterOf, IsPosted, IsShaped, IsWhole, IsSameWorld};
 
@@ -159,7 +215,8 @@ impl<M: TaskMaker> World<M> {
             number,
             msg: message_copy(self.alloc, &msg)?,
         };
-        self.channels.push(msg.from.0 as usize, msg.to.0 as usize, letter)?;
+        self.channels
+            .push(msg.from.0 as usize, msg.to.0 as usize, letter)?;
         self.sent = number;
         Ok(Rec::Sent { number, msg })
     }
@@ -231,7 +288,15 @@ impl<M: TaskMaker> World<M> {
         ensures same { IsSameWorld self.old self.new }
     {
         let mut records = Items::new(self.alloc);
-        let Some(Stepped { turn, label, cells, sends }) = self.turn(proc)? else {
+        let Some(
+            Stepped {
+                turn,
+                label,
+                cells,
+                sends,
+            },
+        ) = self.turn(proc)?
+        else {
             return Ok(records);
         };
         let text = line_text(self.alloc, &label)?;
@@ -323,5 +388,19 @@ impl<M: TaskMaker> World<M> {
         ensures { result ≡ units_of self.now }
     {
         self.units
+    }
+
+    /// How far the threads have come. Takes no memory.
+    pub fn finished(&self) -> Finished
+        requires { IsWhole M.Made.state M.first M.Made.semantics self.now }
+        ensures { result ≡ finished_by (setup_of self.now).procs (λ p. ending_of (deeds_of p (groups_of self.now))) }
+    {
+        if all_ended(&self.nodes) {
+            Finished::Done
+        } else if all_over(&self.nodes) {
+            Finished::Stopped
+        } else {
+            Finished::Unfinished
+        }
     }
 }

@@ -1,4 +1,4 @@
-use Rattle.std.proofs.Common.{◌≡◌, ◌∙◌, ◌++◌, ◌∷◌, [], ap}
+use Rattle.std.proofs.Common.{◌∙◌, ◌++◌, ◌∷◌, [], ap}
 use Rattle.dsm_trace.specs.declared.trace.Rec.{Rec}
 use Rattle.dsm_trace.specs.Rows.{sent_records}
 use Rattle.dsm_trace.specs.Told.{told_records}

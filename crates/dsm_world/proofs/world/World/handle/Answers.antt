@@ -1,4 +1,4 @@
-use Rattle.std.proofs.Common.{◌≡◌, ◌<◌, length, arith}
+use Rattle.std.proofs.Common.{◌<◌, length, arith}
 use Rattle.std.proofs.lemmas.Result.{on_ok_weaker}
 use Rattle.dsm_world.proofs.Nodes.{node_of, handled_shown, shaped_replaced, node_kept}
 use Rattle.dsm_world.proofs.world.World.handle.Goals as goal

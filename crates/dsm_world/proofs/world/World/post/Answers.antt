@@ -1,6 +1,5 @@
-use Rattle.std.proofs.Common.{◌≡◌, sym, ap, ◌∙◌, subst}
 use Rattle.dsm_world.specs.Channels.{channel_of}
-use Rattle.dsm_world.specs.World.{AreChannels, setup_of}
+use Rattle.dsm_world.specs.World.{setup_of}
 use Rattle.dsm_world.proofs.UnderWay.{channels_with, one_more_letter}
 use Rattle.dsm_world.proofs.world.World.post.Goals as goal
 

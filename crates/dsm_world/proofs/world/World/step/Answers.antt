@@ -1,7 +1,6 @@
-use Rattle.std.proofs.Common.{◌≡◌, ◌∙◌, ap, sym}
+use Rattle.std.proofs.Common.{◌∙◌, ap, sym}
 use Rattle.dsm_trace.specs.Rows.{sent_records}
 use Rattle.dsm_trace.specs.Told.{told_records}
-use Rattle.dsm_node.specs.Node.{stepped_by}
 use Rattle.dsm_world.specs.World.{setup_of, shown, unnumbered, turn_of}
 use Rattle.dsm_world.proofs.Steps.{step_told}
 use Rattle.dsm_world.proofs.world.World.step.Goals as goal
