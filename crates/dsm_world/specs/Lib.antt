@@ -1,0 +1,5 @@
+pub mod Channels
+pub mod Lines
+pub mod Nodes
+pub mod World
+pub mod Finished

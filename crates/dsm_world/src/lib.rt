@@ -1,0 +1,9 @@
+//! All processors with their channels, and the trace of what happened.
+#![tactic(auto)]
+
+mod channels;
+mod lines;
+mod world;
+
+pub use lines::Lines;
+pub use world::{Finished, World};
