@@ -1,0 +1,12 @@
+//! Small programs: their tree, what their threads do, and their reader.
+#![tactic(auto)]
+
+mod limits;
+mod program;
+mod tree;
+mod value;
+
+pub use tree::{
+    Factor, Factors, Operand, Part, Parts, Product, SmallProgram, Statement, Statements, Sum, Term,
+    Terms,
+};

@@ -1,0 +1,1 @@
+//! Whether a program is small.
