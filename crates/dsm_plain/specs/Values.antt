@@ -80,3 +80,13 @@ parts_text who (part ∷ more) answers = do
   first ← part_text who part answers
   others ← parts_text who more first.1
   Ok (first.0 ++ others.0, others.1)
+
+-- a text in front of what a print comes to
+abbrev pub after_text : List ℕ → Outcome (List ℕ) → Outcome (List ℕ)
+after_text front (Ok text) = Ok (front ++ text.0, text.1)
+after_text front (Err halt) = Err halt
+
+-- what a call that writes a line came to, with the line and the answers that it left
+abbrev pub written : Result (Unit {0}) Halt → List ℕ → List ℤ → Outcome (List ℕ)
+written (Ok done) line left = Ok (line, left)
+written (Err halt) line left = Err halt

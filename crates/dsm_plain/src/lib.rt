@@ -2,7 +2,10 @@
 #![tactic(auto)]
 
 mod limits;
+mod print;
 mod program;
+mod room;
+mod state;
 mod tree;
 mod value;
 

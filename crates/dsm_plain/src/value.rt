@@ -24,6 +24,7 @@ pub enum Halt {
 }
 
 /// The answers of the loads that are left, which contracts see as a list.
+#[derive(Drop)]
 pub struct AnswersLeft<'a> {
     left: &'a [i64],
 }
