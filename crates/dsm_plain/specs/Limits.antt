@@ -1,8 +1,7 @@
 -- Which programs are small.
-use Rattle.std.specs.Prelude.{ℕ, ◌+◌, Bool, true, false, ◌&&◌, ◌||◌, not, nat_le, List, [], ◌∷◌, length, sum_by}
+use Rattle.std.specs.Prelude.{ℕ, ◌+◌, Bool, true, false, ◌&&◌, ◌||◌, not, nat_le, List, length, sum_by}
 use Rattle.std.specs.List.{list_any, list_all}
 use Rattle.dsm_plain.specs.declared.tree.Operand.{Operand}
-use Rattle.dsm_plain.specs.declared.tree.Factor.{Factor}
 use Rattle.dsm_plain.specs.declared.tree.Product.{Product}
 use Rattle.dsm_plain.specs.declared.tree.Term.{Term}
 use Rattle.dsm_plain.specs.declared.tree.Sum.{Sum}

@@ -1,5 +1,5 @@
 -- What a thread of a small program wants, and what a label makes of it.
-use Rattle.std.specs.Prelude.{ℕ, ℤ, ◌+◌, Bool, true, false, if◌then◌else◌, List, [], ◌∷◌, ◌++◌, slice_get, Option, Some, None, Result, Ok, Err}
+use Rattle.std.specs.Prelude.{ℕ, ℤ, ◌+◌, true, false, if◌then◌else◌, List, [], ◌∷◌, ◌++◌, slice_get, Option, Some, None, Ok, Err}
 use Rattle.dsm_base.specs.declared.names.Mode.{Mode}
 use Rattle.dsm_base.specs.declared.names.Fault.{Fault}
 use Rattle.dsm_base.specs.declared.names.Lock.{Lock}
@@ -10,7 +10,6 @@ use Rattle.dsm_base.specs.Threads.{Semantics}
 use Rattle.dsm_plain.specs.declared.tree.Statement.{Statement}
 use Rattle.dsm_plain.specs.declared.tree.SmallProgram.{SmallProgram}
 use Rattle.dsm_plain.specs.declared.value.Halt.{Halt}
-use Rattle.dsm_plain.specs.declared.value.Identity.{Identity}
 use Rattle.dsm_plain.specs.declared.state.SmallState.{SmallState}
 use Rattle.dsm_plain.specs.Values.{Outcome, sum_value, parts_text}
 

@@ -5,7 +5,9 @@ mod limits;
 mod print;
 mod program;
 mod room;
+mod setup;
 mod state;
+mod thread;
 mod tree;
 mod value;
 

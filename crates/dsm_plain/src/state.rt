@@ -10,10 +10,10 @@ use crate::value::{AnswersLeft, Halt, Identity};
 use dsm_base::{Cell, Fault, Lock, Mode, Want};
 
 /// The lock of a small program.
-const THE_LOCK: Lock = Lock(0);
+pub const THE_LOCK: Lock = Lock(0);
 
 /// The shared cell of a small program.
-const THE_CELL: Cell = Cell(0);
+pub const THE_CELL: Cell = Cell(0);
 
 /// What a thread has to know to go on.
 #[derive(Drop)]
@@ -31,11 +31,11 @@ pub struct SmallState {
 }
 
 impl SmallState {
-    ghost use Rattle.std.specs.Prelude.{IsTrue};
+    ghost use Rattle.std.specs.Prelude.{◌<◌, length, IsTrue};
     ghost use Rattle.dsm_base.specs.declared.label.Want.{Want};
     ghost use Rattle.dsm_plain.specs.Limits.{are_small_parts};
     ghost use Rattle.dsm_plain.specs.Values.{sum_value, parts_text};
-    ghost use Rattle.dsm_plain.specs.Meaning.{small_want, small_text, want_of_assign, want_of_print, text_of_print};
+    ghost use Rattle.dsm_plain.specs.Meaning.{small_want, small_text, next_statement, want_of_assign, want_of_print, text_of_print};
 
     /// The step that comes next; where it is a line, its text is in `line`.
     pub fn want(&self, line: &mut Line) -> Want
@@ -53,6 +53,18 @@ impl SmallState {
             Some(Statement::Assign { line, value }) => self.want_of_assign(*line, value),
             Some(Statement::Print { parts }) => self.want_of_print(parts.as_slice(), line),
         }
+    }
+
+    /// Goes on to the next statement.
+    pub fn go_on(&mut self)
+        requires { self.old.place < length self.old.program.statements }
+        ensures { self.new ≡ next_statement self.old }
+    {
+        let has_statement = self.place < self.program.get().statements.len();
+        prove!(has_statement);
+        self.place += 1;
+        self.answers.clear();
+        self.asked = false;
     }
 
     fn want_of_assign(&self, line: u32, value: &Sum) -> Want

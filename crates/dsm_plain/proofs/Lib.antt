@@ -1,0 +1,4 @@
+pub mod Tests
+pub mod Loads
+pub mod Wants
+pub mod Within
