@@ -15,6 +15,9 @@ use Rattle.dsm_syntax.specs.declared.front.Shape.{Shape}
 use Rattle.dsm_syntax.specs.declared.front.Shape.TheVariants as s
 use Rattle.dsm_syntax.specs.declared.sign.Sign.{Sign}
 use Rattle.dsm_syntax.specs.declared.sign.TheConstants.{SIGNS}
+use Rattle.dsm_syntax.specs.declared.token.Token.{Token}
+use Rattle.dsm_syntax.specs.declared.token.TokenKind.{TokenKind}
+use Rattle.dsm_syntax.specs.declared.token.TokenKind.TheVariants as kind
 use Rattle.dsm_syntax.specs.declared.word.Word.{Word}
 use Rattle.dsm_syntax.specs.declared.word.TheConstants.{WORDS}
 use Rattle.dsm_syntax.specs.Bytes.{is_letter, is_name_byte, is_blank, is_string_byte, is_line_byte, lines_in}
@@ -117,3 +120,28 @@ front_by line text l.Sign = sign line text
 
 abbrev pub front_of : ℕ → List ℕ → Result Front ProgErr
 front_of line text = front_by line text (lead_of text)
+
+-- what a string of this text holds between its quotes
+abbrev pub held_in : List ℕ → List ℕ
+held_in bytes = take (length bytes - 2) (drop 1 bytes)
+
+-- the token of a shape that has this text, where it is one
+abbrev pub kind_of : Shape → List ℕ → Option TokenKind
+kind_of s.Blank bytes = None
+kind_of s.LineComment bytes = None
+kind_of s.BlockComment bytes = None
+kind_of s.Name bytes = Some (kind.Name bytes)
+kind_of (s.Word word) bytes = Some (kind.Word word)
+kind_of (s.Number value) bytes = Some (kind.Number value)
+kind_of s.Str bytes = Some (kind.Str (held_in bytes))
+kind_of (s.Sign sign) bytes = Some (kind.Sign sign)
+
+-- a token at a place, where there is one
+abbrev pub listed : Option TokenKind → ℕ → ℕ → ℕ → List Token
+listed None at len line = []
+listed (Some kind) at len line = record { kind = kind; at = at; len = len; line = line } ∷ []
+
+-- a token is one too many
+abbrev pub IsUnlisted : List Token → Option TokenKind → ProgErr → Type 0
+IsUnlisted tokens None e = ⊥
+IsUnlisted tokens (Some kind) e = (65536 ≤ length tokens) × (e ≡ err.Limit which.Tokens 65537)

@@ -1,5 +1,5 @@
 -- What a whole text spells, and why it is refused.
-use Rattle.std.specs.Prelude.{◌≡◌, ◌≤◌, ◌<◌, ℕ, ◌+◌, min, ⊤, List, [], ◌∷◌, ◌++◌, length}
+use Rattle.std.specs.Prelude.{◌≡◌, ◌≤◌, ◌<◌, ℕ, ◌+◌, min, ⊤, ◌⊎◌, Result, Err, List, [], ◌∷◌, ◌++◌, length}
 use Rattle.std.specs.List.{flat_map}
 use Rattle.dsm_syntax.specs.declared.errors.ProgErr.{ProgErr}
 use Rattle.dsm_syntax.specs.declared.errors.ProgErr.TheVariants as err
@@ -58,3 +58,7 @@ pub data IsRefused (text : List ℕ) : ProgErr → Type 0 where
   long_text : 262144 < length text → IsRefused text (err.Limit which.Text (min (length text) 4294967295))
   fault : (items : List Item) (rest : List ℕ) (e : ProgErr) → length text ≤ 262144 → IsCut text items rest → length (tokens_of 0 1 items) ≤ 65536 → IsFault (1 + lines_in (written items)) rest e → IsRefused text e
   many_tokens : (items : List Item) (rest : List ℕ) → length text ≤ 262144 → IsCut text items rest → length (tokens_of 0 1 items) ≡ 65537 → IsRefused text (err.Limit which.Tokens 65537)
+
+-- the answer is this one, or want of memory
+abbrev pub IsAnswer : Result (List Token) ProgErr → Result (List Token) ProgErr → Type 0
+IsAnswer result answer = (result ≡ answer) ⊎ (result ≡ Err err.Memory)

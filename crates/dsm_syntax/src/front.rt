@@ -1,6 +1,6 @@
 //! What stands at the front of a text.
 
-ghost use Rattle.std.specs.Prelude.{◌≡◌, ◌+◌, ◌-◌, ◌^◌, ◌<◌, ◌≤◌, false, length, min, slice_index};
+ghost use Rattle.std.specs.Prelude.{◌≡◌, ◌+◌, ◌-◌, ◌^◌, ◌<◌, ◌≤◌, false, IfOk, length, min, slice_index};
 ghost use Rattle.std.specs.Char.{is_ascii_digit};
 ghost use Rattle.std.specs.List.{prefix_len};
 ghost use Rattle.dsm_syntax.specs.Bytes.{is_name_byte, is_string_byte, is_line_byte, lines_in};
@@ -255,8 +255,7 @@ fn sign(text: &[u8], line: u32) -> Result<Front, ProgErr>
     }
 }
 
-/// The piece at the front of a text that begins in this line.
-pub fn front_of(text: &[u8], line: u32) -> Result<Front, ProgErr>
+fn piece(text: &[u8], line: u32) -> Result<Front, ProgErr>
     requires some { 1 ≤ length text.now }
     requires fits { line + length text.now < 2 ^ 32 }
     ensures { result ≡ of.front_of line text.now }
@@ -273,4 +272,14 @@ pub fn front_of(text: &[u8], line: u32) -> Result<Front, ProgErr>
         Lead::BlockComment => block_comment(text, line),
         Lead::Sign => sign(text, line),
     }
+}
+
+/// The piece at the front of a text that begins in this line.
+pub fn front_of(text: &[u8], line: u32) -> Result<Front, ProgErr>
+    requires some { 1 ≤ length text.now }
+    requires fits { line + length text.now < 2 ^ 32 }
+    ensures value { result ≡ of.front_of line text.now }
+    ensures within { IfOk result (λ front. (1 ≤ front.len) × (front.len ≤ length text.now)) }
+{
+    piece(text, line)
 }

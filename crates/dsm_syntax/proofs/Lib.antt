@@ -1,0 +1,9 @@
+pub mod Classes
+pub mod Tables
+pub mod Closings
+pub mod Leads
+pub mod Readings
+pub mod Decisions
+pub mod Cuts
+pub mod Turns
+pub mod Laws
