@@ -1,7 +1,9 @@
 //! Small programs: their tree, what their threads do, and their reader.
 #![tactic(auto)]
 
+mod cursor;
 mod limits;
+mod names;
 mod print;
 mod program;
 mod room;
