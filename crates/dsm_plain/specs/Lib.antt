@@ -6,3 +6,4 @@ pub mod Setups
 pub mod Kinds
 pub mod Spelling
 pub mod Reading
+pub mod Reads
