@@ -2,3 +2,4 @@ pub mod Tests
 pub mod Loads
 pub mod Wants
 pub mod Within
+pub mod Marks

@@ -38,17 +38,36 @@ abbrev pub all_expected : List TokenKind → List Token → Option (List Token)
 all_expected [] tokens = Some tokens
 all_expected (kind ∷ kinds) tokens = one_expected kind tokens >>= (λ first. all_expected kinds first.1)
 
+-- One after the other.
+
+-- what is made of two that are read one after the other
+unfoldable pub both : {A B C : Type 0} → Reader A → Reader B → (A → B → C) → Reader C
+both first second make tokens = do
+  a ← first tokens
+  b ← second a.1
+  Some (make a.0 b.0, b.1)
+
+-- after tokens of these kinds
+unfoldable pub after : {A : Type 0} → List TokenKind → Reader A → Reader A
+after kinds reader tokens = all_expected kinds tokens >>= reader
+
+-- before tokens of these kinds
+unfoldable pub before : {A : Type 0} → Reader A → List TokenKind → Reader A
+before reader kinds tokens = do
+  a ← reader tokens
+  left ← all_expected kinds a.1
+  Some (a.0, left)
+
 -- items, as long as one comes next; at most so many
 unfoldable pub many : {A : Type 0} → (List Token → Bool) → Reader A → ℕ → Reader (List A)
 many comes item zero tokens = if comes tokens then None else Some ([], tokens)
-many comes item (suc n) tokens =
-    if comes tokens then (item tokens >>= (λ first. many comes item n first.1 >>= (λ more. Some (first.0 ∷ more.0, more.1)))) else Some ([], tokens)
+many comes item (suc n) tokens = if comes tokens then both item (many comes item n) (λ first more. first ∷ more) tokens else Some ([], tokens)
 
 -- items, as long as one comes next; there are no more than tokens
-abbrev pub all_of : {A : Type 0} → (List Token → Bool) → Reader A → Reader (List A)
+unfoldable pub all_of : {A : Type 0} → (List Token → Bool) → Reader A → Reader (List A)
 all_of comes item tokens = many comes item (length tokens) tokens
 
--- a name of any kind
+-- a name, whichever it is
 abbrev pub name_kind : TokenKind → Option (List ℕ)
 name_kind (TokenKind.Name text) = Some text
 name_kind _ = None
@@ -65,6 +84,14 @@ string_kind _ = None
 abbrev pub next_string : List Token → Option (List ℕ)
 next_string [] = None
 next_string (token ∷ tokens) = string_kind token.kind
+
+-- Kinds of tokens.
+
+abbrev pub word : Word → TokenKind
+word w = TokenKind.Word w
+
+abbrev pub sign : Sign → TokenKind
+sign s = TokenKind.Sign s
 
 -- Expressions. There are names where the items stand.
 
@@ -87,34 +114,22 @@ read_operand names [] = None
 read_operand names (token ∷ tokens) = operand_of names token.kind token.line >>= (λ operand. Some (operand, tokens))
 
 unfoldable pub read_factor : Option Names → Reader Factor
-read_factor names tokens = do
-  star ← one_expected (TokenKind.Sign Sign.Star) tokens
-  operand ← read_operand names star.1
-  Some (record { line = star.0; operand = operand.0 }, operand.1)
+read_factor names = both (one_expected (sign Sign.Star)) (read_operand names) (λ line operand. record { line = line; operand = operand })
 
 unfoldable pub read_factors : Option Names → Reader (List Factor)
-read_factors names tokens = all_of (starts (TokenKind.Sign Sign.Star)) (read_factor names) tokens
+read_factors names = all_of (starts (sign Sign.Star)) (read_factor names)
 
 unfoldable pub read_product : Option Names → Reader Product
-read_product names tokens = do
-  first ← read_operand names tokens
-  more ← read_factors names first.1
-  Some (record { first = first.0; more = more.0 }, more.1)
+read_product names = both (read_operand names) (read_factors names) (λ first more. record { first = first; more = more })
 
 unfoldable pub read_term : Option Names → Reader Term
-read_term names tokens = do
-  plus ← one_expected (TokenKind.Sign Sign.Plus) tokens
-  product ← read_product names plus.1
-  Some (record { line = plus.0; product = product.0 }, product.1)
+read_term names = both (one_expected (sign Sign.Plus)) (read_product names) (λ line product. record { line = line; product = product })
 
 unfoldable pub read_terms : Option Names → Reader (List Term)
-read_terms names tokens = all_of (starts (TokenKind.Sign Sign.Plus)) (read_term names) tokens
+read_terms names = all_of (starts (sign Sign.Plus)) (read_term names)
 
 unfoldable pub read_sum : Option Names → Reader Sum
-read_sum names tokens = do
-  first ← read_product names tokens
-  more ← read_terms names first.1
-  Some (record { first = first.0; more = more.0 }, more.1)
+read_sum names = both (read_product names) (read_terms names) (λ first more. record { first = first; more = more })
 
 -- Statements.
 
@@ -126,56 +141,45 @@ unfoldable pub read_part : Option Names → Reader Part
 read_part names tokens = part_by names (next_string tokens) tokens
 
 unfoldable pub read_more_part : Option Names → Reader Part
-read_more_part names tokens = do
-  comma ← one_expected (TokenKind.Sign Sign.Comma) tokens
-  read_part names comma.1
+read_more_part names = after (sign Sign.Comma ∷ []) (read_part names)
 
 unfoldable pub read_more_parts : Option Names → Reader (List Part)
-read_more_parts names tokens = all_of (starts (TokenKind.Sign Sign.Comma)) (read_more_part names) tokens
+read_more_parts names = all_of (starts (sign Sign.Comma)) (read_more_part names)
 
 unfoldable pub read_parts : Option Names → Reader (List Part)
-read_parts names tokens = do
-  first ← read_part names tokens
-  more ← read_more_parts names first.1
-  Some (first.0 ∷ more.0, more.1)
+read_parts names = both (read_part names) (read_more_parts names) (λ first more. first ∷ more)
 
--- the lock between parentheses after a word, and the line of its name
-unfoldable pub read_lock : Names → Word → Reader ℕ
-read_lock names word tokens = do
-  opened ← all_expected (TokenKind.Word word ∷ TokenKind.Sign Sign.ParenOpen ∷ []) tokens
-  lock ← one_expected (TokenKind.Name names.lock) opened
-  close ← all_expected (TokenKind.Sign Sign.ParenClose ∷ TokenKind.Sign Sign.Semicolon ∷ []) lock.1
-  Some (lock.0, close)
+-- the lock between parentheses after a word, by the line of its name
+unfoldable pub read_lock : Word → Names → Reader ℕ
+read_lock w names =
+    after (word w ∷ sign Sign.ParenOpen ∷ []) (before (one_expected (TokenKind.Name names.lock)) (sign Sign.ParenClose ∷ sign Sign.Semicolon ∷ []))
 
-unfoldable pub read_assign : Option Names → Reader Statement
-read_assign None tokens = None
-read_assign (Some names) tokens = do
-  cell ← one_expected (TokenKind.Name names.cell) tokens
-  sign ← one_expected (TokenKind.Sign Sign.Assign) cell.1
-  value ← read_sum (Some names) sign.1
-  end ← one_expected (TokenKind.Sign Sign.Semicolon) value.1
-  Some (Statement.Assign cell.0 value.0, end.1)
+unfoldable pub read_assign : Names → Reader Statement
+read_assign names =
+    both (before (one_expected (TokenKind.Name names.cell)) (sign Sign.Assign ∷ [])) (before (read_sum (Some names)) (sign Sign.Semicolon ∷ [])) Statement.Assign
 
-unfoldable pub read_print : Option Names → Reader Statement
-read_print names tokens = do
-  opened ← all_expected (TokenKind.Word Word.Print ∷ TokenKind.Sign Sign.ParenOpen ∷ []) tokens
-  parts ← read_parts names opened
-  close ← all_expected (TokenKind.Sign Sign.ParenClose ∷ TokenKind.Sign Sign.Semicolon ∷ []) parts.1
-  Some (Statement.Print parts.0, close)
+unfoldable pub read_print : Option Names → Reader (List Part)
+read_print names =
+    after (word Word.Print ∷ sign Sign.ParenOpen ∷ []) (before (read_parts names) (sign Sign.ParenClose ∷ sign Sign.Semicolon ∷ []))
+
+-- a statement that names the lock or the shared cell
+unfoldable pub read_named : Names → Reader Statement
+read_named names tokens =
+    if starts (word Word.Acquire) tokens then (read_lock Word.Acquire names tokens >>= (λ lock. Some (Statement.Acquire lock.0, lock.1)))
+    else (if starts (word Word.Release) tokens then (read_lock Word.Release names tokens >>= (λ lock. Some (Statement.Release lock.0, lock.1)))
+    else read_assign names tokens)
 
 unfoldable pub read_statement : Option Names → Reader Statement
 read_statement names tokens =
-    if starts (TokenKind.Word Word.Print) tokens then read_print names tokens
-    else (if starts (TokenKind.Word Word.Acquire) tokens then (names >>= (λ names. read_lock names Word.Acquire tokens) >>= (λ lock. Some (Statement.Acquire lock.0, lock.1)))
-    else (if starts (TokenKind.Word Word.Release) tokens then (names >>= (λ names. read_lock names Word.Release tokens) >>= (λ lock. Some (Statement.Release lock.0, lock.1)))
-    else read_assign names tokens))
+    if starts (word Word.Print) tokens then (read_print names tokens >>= (λ parts. Some (Statement.Print parts.0, parts.1)))
+    else (names >>= (λ names. read_named names tokens))
 
 -- a statement comes next where neither the return nor the block's end does
 abbrev pub statement_comes : List Token → Bool
-statement_comes tokens = not (starts (TokenKind.Word Word.Return) tokens || starts (TokenKind.Sign Sign.BraceClose) tokens)
+statement_comes tokens = not (starts (word Word.Return) tokens || starts (sign Sign.BraceClose) tokens)
 
 unfoldable pub read_statements : Option Names → Reader (List Statement)
-read_statements names tokens = all_of statement_comes (read_statement names) tokens
+read_statements names = all_of statement_comes (read_statement names)
 
 -- Programs.
 
@@ -185,51 +189,52 @@ is_free text = not (pointwise nat_eq text (codes "me") || pointwise nat_eq text 
 abbrev pub are_names : Names → Bool
 are_names names = is_free names.cell && is_free names.lock && not (pointwise nat_eq names.cell names.lock)
 
-unfoldable pub read_bind : Names → Reader Names
-read_bind names tokens = do
-  end ← all_expected (
-    TokenKind.Word Word.Bind ∷ TokenKind.Sign Sign.ParenOpen ∷ TokenKind.Name names.lock ∷ TokenKind.Sign Sign.Comma ∷ TokenKind.Name names.cell ∷ TokenKind.Sign Sign.Comma
-    ∷ TokenKind.Number (pos 0) ∷ TokenKind.Sign Sign.Comma ∷ TokenKind.Number (pos 1) ∷ TokenKind.Sign Sign.ParenClose ∷ TokenKind.Sign Sign.Semicolon ∷ []) tokens
-  if are_names names then Some (names, end) else None
+-- what declares the shared cell and the lock
+unfoldable pub read_declared : Reader Names
+read_declared =
+    both (after (word Word.Shared ∷ word Word.Int ∷ []) (before any_name (sign Sign.Semicolon ∷ [])))
+    (after (word Word.LockType ∷ []) (before any_name (sign Sign.Semicolon ∷ []))) (λ cell lock. record { cell = cell; lock = lock })
+
+-- what binds them
+abbrev pub bind_kinds : Names → List TokenKind
+bind_kinds names =
+    word Word.Bind ∷ sign Sign.ParenOpen ∷ TokenKind.Name names.lock ∷ sign Sign.Comma ∷ TokenKind.Name names.cell ∷ sign Sign.Comma
+    ∷ TokenKind.Number (pos 0) ∷ sign Sign.Comma ∷ TokenKind.Number (pos 1) ∷ sign Sign.ParenClose ∷ sign Sign.Semicolon ∷ []
 
 unfoldable pub read_items : Reader Names
 read_items tokens = do
-  shared ← all_expected (TokenKind.Word Word.Shared ∷ TokenKind.Word Word.Int ∷ []) tokens
-  cell ← any_name shared
-  lock_type ← all_expected (TokenKind.Sign Sign.Semicolon ∷ TokenKind.Word Word.LockType ∷ []) cell.1
-  lock ← any_name lock_type
-  bind ← one_expected (TokenKind.Sign Sign.Semicolon) lock.1
-  read_bind (record { cell = cell.0; lock = lock.0 }) bind.1
+  names ← read_declared tokens
+  left ← all_expected (bind_kinds names.0) names.1
+  if are_names names.0 then Some (names.0, left) else None
 
 -- the items, if they stand
 unfoldable pub read_names : Reader (Option Names)
-read_names tokens =
-    if starts (TokenKind.Word Word.Shared) tokens then (read_items tokens >>= (λ names. Some (Some names.0, names.1))) else Some (None, tokens)
+read_names tokens = if starts (word Word.Shared) tokens then (read_items tokens >>= (λ names. Some (Some names.0, names.1))) else Some (None, tokens)
 
 -- `int main(int me, int n) {`
-unfoldable pub read_header : List Token → Option (List Token)
-read_header tokens = all_expected (
-  TokenKind.Word Word.Int ∷ TokenKind.Name (codes "main") ∷ TokenKind.Sign Sign.ParenOpen ∷ TokenKind.Word Word.Int ∷ TokenKind.Name (codes "me") ∷ TokenKind.Sign Sign.Comma
-  ∷ TokenKind.Word Word.Int ∷ TokenKind.Name (codes "n") ∷ TokenKind.Sign Sign.ParenClose ∷ TokenKind.Sign Sign.BraceOpen ∷ []) tokens
+abbrev pub header_kinds : List TokenKind
+header_kinds =
+    word Word.Int ∷ TokenKind.Name (codes "main") ∷ sign Sign.ParenOpen ∷ word Word.Int ∷ TokenKind.Name (codes "me") ∷ sign Sign.Comma
+    ∷ word Word.Int ∷ TokenKind.Name (codes "n") ∷ sign Sign.ParenClose ∷ sign Sign.BraceOpen ∷ []
 
--- `return 0;`, if it stands
+-- `return 0;`
+abbrev pub return_kinds : List TokenKind
+return_kinds = word Word.Return ∷ TokenKind.Number (pos 0) ∷ sign Sign.Semicolon ∷ []
+
+-- the return, if it stands
 unfoldable pub read_return : List Token → Option (List Token)
-read_return tokens =
-    if starts (TokenKind.Word Word.Return) tokens
-    then all_expected (TokenKind.Word Word.Return ∷ TokenKind.Number (pos 0) ∷ TokenKind.Sign Sign.Semicolon ∷ []) tokens
-    else Some tokens
+read_return tokens = if starts (word Word.Return) tokens then all_expected return_kinds tokens else Some tokens
 
--- the end of the block and of the tokens
-unfoldable pub read_end : List Token → Option (List Token)
-read_end tokens = do
-  close ← one_expected (TokenKind.Sign Sign.BraceClose) tokens
-  if nat_eq (length close.1) 0 then Some close.1 else None
+unfoldable pub read_block : Option Names → Reader (List Statement)
+read_block names tokens = do
+  statements ← after header_kinds (read_statements names) tokens
+  left ← read_return statements.1
+  end ← all_expected (sign Sign.BraceClose ∷ []) left
+  Some (statements.0, end)
 
-unfoldable pub read_program : Reader (Bool × List Statement)
+-- the items and the block, and nothing after them
+unfoldable pub read_program : List Token → Option (Bool × List Statement)
 read_program tokens = do
   names ← read_names tokens
-  block ← read_header names.1
-  statements ← read_statements names.0 block
-  close ← read_return statements.1
-  end ← read_end close
-  Some ((is_some names.0, statements.0), end)
+  statements ← read_block names.0 names.1
+  if nat_eq (length statements.1) 0 then Some (is_some names.0, statements.0) else None

@@ -2,6 +2,7 @@
 #![tactic(auto)]
 
 mod cursor;
+mod expression;
 mod limits;
 mod names;
 mod print;
