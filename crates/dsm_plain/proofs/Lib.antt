@@ -3,3 +3,5 @@ pub mod Loads
 pub mod Wants
 pub mod Within
 pub mod Marks
+pub mod Loops
+pub mod Sounds

@@ -58,7 +58,7 @@ same_kind-same (TokenKind.Number n) e = (Decides-int_eq n n).1 refl
 same_kind-same (TokenKind.Str text) e = cc
 
 -- a chain that came to something
-some_then : {A B : Type 0} (o : Option A) (next : A → Option B) (b : B) → (o >>= next) ≡ Some b → (a : A) × (o ≡ Some a) × (next a ≡ Some b)
+pub some_then : {A B : Type 0} (o : Option A) (next : A → Option B) (b : B) → (o >>= next) ≡ Some b → (a : A) × (o ≡ Some a) × (next a ≡ Some b)
 some_then None next b e = cc
 some_then (Some a) next b e = (a, refl, e)
 
@@ -71,11 +71,11 @@ second_or b None = b
 second_or b (Some p) = p.1
 
 module _ {A B : Type 0} (p q : A × B) (e : Some p ≡ Some q) where
-  same_first : p.0 ≡ q.0
+  pub same_first : p.0 ≡ q.0
   unfolding first_or
   same_first = ap (λ (o : Option (A × B)). first_or p.0 o) e
 
-  same_second : p.1 ≡ q.1
+  pub same_second : p.1 ≡ q.1
   unfolding second_or
   same_second = ap (λ (o : Option (A × B)). second_or p.1 o) e
 
@@ -120,7 +120,7 @@ both_sound {first = first} {second = second} {first_marks = first_marks} {second
     rw (← r.made, is r.a r.b) (spells-append (first_marks r.a) (second_marks r.b) tokens r.middle rest (one.reads tokens r.a r.middle r.before) (other.reads r.middle r.b rest r.behind)) }
 
 -- what was read stands in for an equal
-carry : {A : Type 0} (marks : A → List Mark) (tokens : List Token) (a c : A) (left rest : List Token) → a ≡ c → left ≡ rest → Spells (marks a) tokens left → Spells (marks c) tokens rest
+pub carry : {A : Type 0} (marks : A → List Mark) (tokens : List Token) (a c : A) (left rest : List Token) → a ≡ c → left ≡ rest → Spells (marks a) tokens left → Spells (marks c) tokens rest
 carry marks tokens a c left rest e k h = rw (← e, ← k) h
 
 none_read : {A : Type 0} (marks : A → List Mark) (tokens : List Token) (items : List A) (rest : List Token) → ◌≡◌ {A = Option (List A × List Token)} (Some ([], tokens)) (Some (items, rest))

@@ -40,6 +40,11 @@ all_expected (kind ∷ kinds) tokens = one_expected kind tokens >>= (λ first. a
 
 -- One after the other.
 
+-- what is made of what was read
+abbrev pub mapped : {A B : Type 0} → (A → B) → Option (A × List Token) → Option (B × List Token)
+mapped make None = None
+mapped make (Some a) = Some (make a.0, a.1)
+
 -- what is made of two that are read one after the other
 unfoldable pub both : {A B C : Type 0} → Reader A → Reader B → (A → B → C) → Reader C
 both first second make tokens = do
@@ -135,7 +140,7 @@ read_sum names = both (read_product names) (read_terms names) (λ first more. re
 
 abbrev pub part_by : Option Names → Option (List ℕ) → Reader Part
 part_by names (Some text) tokens = Some (Part.Text text, drop 1 tokens)
-part_by names None tokens = read_sum names tokens >>= (λ sum. Some (Part.Value sum.0, sum.1))
+part_by names None tokens = mapped Part.Value (read_sum names tokens)
 
 unfoldable pub read_part : Option Names → Reader Part
 read_part names tokens = part_by names (next_string tokens) tokens
@@ -165,13 +170,13 @@ read_print names =
 -- a statement that names the lock or the shared cell
 unfoldable pub read_named : Names → Reader Statement
 read_named names tokens =
-    if starts (word Word.Acquire) tokens then (read_lock Word.Acquire names tokens >>= (λ lock. Some (Statement.Acquire lock.0, lock.1)))
-    else (if starts (word Word.Release) tokens then (read_lock Word.Release names tokens >>= (λ lock. Some (Statement.Release lock.0, lock.1)))
+    if starts (word Word.Acquire) tokens then mapped Statement.Acquire (read_lock Word.Acquire names tokens)
+    else (if starts (word Word.Release) tokens then mapped Statement.Release (read_lock Word.Release names tokens)
     else read_assign names tokens)
 
 unfoldable pub read_statement : Option Names → Reader Statement
 read_statement names tokens =
-    if starts (word Word.Print) tokens then (read_print names tokens >>= (λ parts. Some (Statement.Print parts.0, parts.1)))
+    if starts (word Word.Print) tokens then mapped Statement.Print (read_print names tokens)
     else (names >>= (λ names. read_named names tokens))
 
 -- a statement comes next where neither the return nor the block's end does
@@ -209,7 +214,7 @@ read_items tokens = do
 
 -- the items, if they stand
 unfoldable pub read_names : Reader (Option Names)
-read_names tokens = if starts (word Word.Shared) tokens then (read_items tokens >>= (λ names. Some (Some names.0, names.1))) else Some (None, tokens)
+read_names tokens = if starts (word Word.Shared) tokens then mapped (λ names. Some names) (read_items tokens) else Some (None, tokens)
 
 -- `int main(int me, int n) {`
 abbrev pub header_kinds : List TokenKind
