@@ -1,7 +1,9 @@
 -- Reading items one after the other, as a loop does.
-use Rattle.std.proofs.Common.{◌≡◌, ℕ, zero, suc, ◌≤◌, ◌<◌, Bool, true, false, cond, List, [], ◌∷◌, ◌++◌, length, Option, Some, None, refl, ap, sym, ◌∙◌, append_assoc, arith}
+use Rattle.std.proofs.Common.{◌≡◌, ℕ, zero, suc, ◌≤◌, ◌<◌, Bool, true, false, cond, List, [], ◌∷◌, ◌++◌, length, Option, Some, None, Err, refl, ap, sym, ◌∙◌, append_assoc, arith}
 use Rattle.std.proofs.lemmas.List.{append-nil}
 use Rattle.dsm_syntax.specs.declared.token.Token.{Token}
+use Rattle.dsm_plain.specs.declared.cursor.Refusal.{Refusal}
+use Rattle.dsm_plain.specs.Reads.{Gives}
 use Rattle.dsm_plain.specs.Spelling.{Mark}
 use Rattle.dsm_plain.specs.Reading.{◌>>=◌, Reader, both, many, all_of}
 use Rattle.dsm_plain.proofs.Marks.{Sound, spells-length}
@@ -88,3 +90,9 @@ module _ {A : Type 0} (comes : List Token → Bool) (item : Reader A) (shortens 
     unfolding all_of
     is_done gone so_far =
         sym so_far ∙ ap (with_front front) (no_more (length tokens) gone) ∙ ap (λ (items : List A). Some (items, tokens)) (append-nil front)
+
+-- a call that refused an item refuses the items
+pub refuses : {A : Type 0} (comes : List Token → Bool) (item : Reader A) (shortens : Shortens item) (front : List A) (tokens : List Token) (total : Option (List A × List Token)) (refusal : Refusal)
+    (left rest : List Token) → comes tokens ≡ true → Gives {A = A} (Err refusal) left (item tokens) → with_front front (all_of comes item tokens) ≡ total → Gives {A = List A} (Err refusal) rest total
+refuses comes item shortens front tokens total Refusal.NotSmall left rest come refused so_far = fails comes item shortens front tokens total come refused so_far
+refuses comes item shortens front tokens total Refusal.Memory left rest come refused so_far = tt

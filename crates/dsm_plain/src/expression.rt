@@ -1,6 +1,7 @@
 //! Reads expressions.
 
 ghost use Rattle.std.specs.Prelude.{◌≡◌};
+ghost use Rattle.std.specs.Option.{option_copied};
 ghost use Rattle.dsm_plain.specs.Reading.{operand_named, operand_of, read_operand, read_factor, read_factors, read_product, read_term, read_terms, read_sum};
 ghost use Rattle.dsm_plain.specs.Reads.{Gives};
 
@@ -15,8 +16,8 @@ const STAR: Expected<'static> = Expected::Sign(Sign::Star);
 const PLUS: Expected<'static> = Expected::Sign(Sign::Plus);
 
 /// The operand that a name stands for.
-fn operand_named(names: &Option<Names>, name: &[u8], line: u32) -> Option<Operand>
-    ensures { result ≡ operand_named names.now name.now line }
+fn operand_named(names: Option<&Names>, name: &[u8], line: u32) -> Option<Operand>
+    ensures { result ≡ operand_named (option_copied names.entry) name.now line }
 {
     match (names, name) {
         (Some(names), _) if names.cell.as_slice() == name => Some(Operand::Shared { line }),
@@ -26,8 +27,8 @@ fn operand_named(names: &Option<Names>, name: &[u8], line: u32) -> Option<Operan
     }
 }
 
-fn operand_of(names: &Option<Names>, kind: &TokenKind, line: u32) -> Option<Operand>
-    ensures { result ≡ operand_of names.now kind.now line }
+fn operand_of(names: Option<&Names>, kind: &TokenKind, line: u32) -> Option<Operand>
+    ensures { result ≡ operand_of (option_copied names.entry) kind.now line }
 {
     match kind {
         TokenKind::Number(number) => Some(Operand::Number(*number)),
@@ -37,8 +38,8 @@ fn operand_of(names: &Option<Names>, kind: &TokenKind, line: u32) -> Option<Oper
 }
 
 #[tactic(auto, unfolding(crate::specs::Reading::read_operand))]
-fn operand(names: &Option<Names>, tokens: &mut Cursor<'_>) -> Result<Operand, Refusal>
-    ensures { Gives result tokens.new (read_operand names.now tokens.old) }
+fn operand(names: Option<&Names>, tokens: &mut Cursor<'_>) -> Result<Operand, Refusal>
+    ensures { Gives result tokens.new (read_operand (option_copied names.entry) tokens.old) }
 {
     let Some(token) = tokens.next() else {
         return Err(Refusal::NotSmall);
@@ -47,8 +48,8 @@ fn operand(names: &Option<Names>, tokens: &mut Cursor<'_>) -> Result<Operand, Re
 }
 
 #[tactic(auto, unfolding(crate::specs::Reading::read_factor, crate::specs::Reading::both))]
-fn factor(names: &Option<Names>, tokens: &mut Cursor<'_>) -> Result<Factor, Refusal>
-    ensures { Gives result tokens.new (read_factor names.now tokens.old) }
+fn factor(names: Option<&Names>, tokens: &mut Cursor<'_>) -> Result<Factor, Refusal>
+    ensures { Gives result tokens.new (read_factor (option_copied names.entry) tokens.old) }
 {
     let line = tokens.expect(STAR)?;
     let operand = operand(names, tokens)?;
@@ -58,10 +59,10 @@ fn factor(names: &Option<Names>, tokens: &mut Cursor<'_>) -> Result<Factor, Refu
 #[tactic(auto, unfolding(crate::specs::Reading::read_product, crate::specs::Reading::both))]
 fn product(
     alloc: Global,
-    names: &Option<Names>,
+    names: Option<&Names>,
     tokens: &mut Cursor<'_>,
 ) -> Result<Product, Refusal>
-    ensures { Gives result tokens.new (read_product names.now tokens.old) }
+    ensures { Gives result tokens.new (read_product (option_copied names.entry) tokens.old) }
 {
     let first = operand(names, tokens)?;
     let more = factors(alloc, names, tokens)?;
@@ -71,10 +72,10 @@ fn product(
 #[tactic(auto, unfolding(crate::specs::Reading::read_factors))]
 fn factors(
     alloc: Global,
-    names: &Option<Names>,
+    names: Option<&Names>,
     tokens: &mut Cursor<'_>,
 ) -> Result<Factors, Refusal>
-    ensures { Gives result tokens.new (read_factors names.now tokens.old) }
+    ensures { Gives result tokens.new (read_factors (option_copied names.entry) tokens.old) }
 {
     let mut factors = Items::new(alloc);
     while tokens.starts(STAR) {
@@ -84,8 +85,8 @@ fn factors(
 }
 
 #[tactic(auto, unfolding(crate::specs::Reading::read_term, crate::specs::Reading::both))]
-fn term(alloc: Global, names: &Option<Names>, tokens: &mut Cursor<'_>) -> Result<Term, Refusal>
-    ensures { Gives result tokens.new (read_term names.now tokens.old) }
+fn term(alloc: Global, names: Option<&Names>, tokens: &mut Cursor<'_>) -> Result<Term, Refusal>
+    ensures { Gives result tokens.new (read_term (option_copied names.entry) tokens.old) }
 {
     let line = tokens.expect(PLUS)?;
     let product = product(alloc, names, tokens)?;
@@ -93,8 +94,8 @@ fn term(alloc: Global, names: &Option<Names>, tokens: &mut Cursor<'_>) -> Result
 }
 
 #[tactic(auto, unfolding(crate::specs::Reading::read_terms))]
-fn terms(alloc: Global, names: &Option<Names>, tokens: &mut Cursor<'_>) -> Result<Terms, Refusal>
-    ensures { Gives result tokens.new (read_terms names.now tokens.old) }
+fn terms(alloc: Global, names: Option<&Names>, tokens: &mut Cursor<'_>) -> Result<Terms, Refusal>
+    ensures { Gives result tokens.new (read_terms (option_copied names.entry) tokens.old) }
 {
     let mut terms = Items::new(alloc);
     while tokens.starts(PLUS) {
@@ -105,8 +106,8 @@ fn terms(alloc: Global, names: &Option<Names>, tokens: &mut Cursor<'_>) -> Resul
 
 /// Reads an expression.
 #[tactic(auto, unfolding(crate::specs::Reading::read_sum, crate::specs::Reading::both))]
-pub fn sum(alloc: Global, names: &Option<Names>, tokens: &mut Cursor<'_>) -> Result<Sum, Refusal>
-    ensures { Gives result tokens.new (read_sum names.now tokens.old) }
+pub fn sum(alloc: Global, names: Option<&Names>, tokens: &mut Cursor<'_>) -> Result<Sum, Refusal>
+    ensures { Gives result tokens.new (read_sum (option_copied names.entry) tokens.old) }
 {
     let first = product(alloc, names, tokens)?;
     let more = terms(alloc, names, tokens)?;
