@@ -10,6 +10,7 @@ mod program;
 mod room;
 mod setup;
 mod state;
+mod statement;
 mod thread;
 mod tree;
 mod value;
