@@ -4,7 +4,7 @@ ghost use Rattle.std.specs.Prelude.{◌≡◌, ◌+◌, ◌*◌, ◌≤◌, leng
 ghost use Rattle.dsm_plain.specs.Limits.{text_length};
 ghost use Rattle.dsm_plain.specs.Values.{after_text, written, part_text, parts_text};
 
-use crate::room::{Line, MOST_LINE};
+use crate::room::{Line, MOST_LINE, MOST_VALUE};
 use crate::tree::Part;
 use crate::value::{AnswersLeft, Halt, Identity};
 use itoa::Buffer;
@@ -17,9 +17,9 @@ impl Part {
         answers: &mut AnswersLeft<'_>,
         line: &mut Line,
     ) -> Result<(), Halt>
-        requires { length line.old + text_length self.now + 20 ≤ MOST_LINE }
+        requires { length line.old + text_length self.now + MOST_VALUE ≤ MOST_LINE }
         ensures written { written result line.new answers.new ≡ after_text line.old (part_text who self.now answers.old) }
-        ensures short { OnOk result (length line.new ≤ length line.old + text_length self.now + 20) }
+        ensures short { OnOk result (length line.new ≤ length line.old + text_length self.now + MOST_VALUE) }
     {
         match self {
             Part::Text(text) => line.append(text.as_slice()),
@@ -39,7 +39,7 @@ pub fn write_parts(
     answers: &mut AnswersLeft<'_>,
     line: &mut Line,
 ) -> Result<(), Halt>
-    requires { length line.old + sum_by text_length parts.now + 20 * length parts.now ≤ MOST_LINE }
+    requires { length line.old + sum_by text_length parts.now + MOST_VALUE * length parts.now ≤ MOST_LINE }
     ensures { written result line.new answers.new ≡ after_text line.old (parts_text who parts.now answers.old) }
 {
     for part in parts {

@@ -2,15 +2,19 @@
 
 ghost use Rattle.std.specs.Prelude.{◌≡◌, ◌+◌, ◌<◌, ◌≤◌, [], ◌∷◌, ◌++◌, length, IfOk};
 
+use crate::limits::{MOST_OPERATORS, MOST_PARTS, MOST_TEXT};
 use dsm_base::MemFault;
 use std::alloc::Global;
 use std::marker::Model;
 
-/// As many answers as the loads of one statement can have: 17 in each of 8 parts.
-pub const MOST_ANSWERS: usize = 136;
+/// As many answers as the loads of one statement can have: one for each operand of each part.
+pub const MOST_ANSWERS: usize = MOST_PARTS * (MOST_OPERATORS + 1);
 
-/// As many bytes as one line can have: 96 of strings, and 20 of a value in each of 8 parts.
-pub const MOST_LINE: usize = 256;
+/// As many bytes as one value can have.
+pub const MOST_VALUE: usize = 20;
+
+/// As many bytes as one line can have: those of the strings, and a value in each part.
+pub const MOST_LINE: usize = MOST_TEXT + MOST_PARTS * MOST_VALUE;
 
 /// The answers of the loads of a statement, which contracts see as a list.
 #[derive(Debug, Drop)]
