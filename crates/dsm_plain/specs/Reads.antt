@@ -21,3 +21,9 @@ abbrev pub GivesText : Result (Bor (List ℕ)) Refusal → List Token → Option
 GivesText (Ok text) left read = read ≡ Some (text.now, left)
 GivesText (Err Refusal.NotSmall) left read = read ≡ None
 GivesText (Err Refusal.Memory) left read = Unit {0}
+
+-- the same of a call that reads all tokens
+abbrev pub GivesAll : {A : Type 0} → Result A Refusal → Option A → Type 0
+GivesAll (Ok a) read = read ≡ Some a
+GivesAll (Err Refusal.NotSmall) read = read ≡ None
+GivesAll (Err Refusal.Memory) read = Unit {0}

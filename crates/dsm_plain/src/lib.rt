@@ -7,6 +7,7 @@ mod limits;
 mod names;
 mod print;
 mod program;
+mod reader;
 mod room;
 mod setup;
 mod state;
