@@ -5,3 +5,4 @@ pub mod Within
 pub mod Marks
 pub mod Loops
 pub mod Sounds
+pub mod Wholes

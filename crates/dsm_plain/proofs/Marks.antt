@@ -80,7 +80,7 @@ module _ {A B : Type 0} (p q : A × B) (e : Some p ≡ Some q) where
   same_second = ap (λ (o : Option (A × B)). second_or p.1 o) e
 
 -- a choice that came to something
-cond_some : {A : Type 0} (b : Bool) (a c : A) → ◌≡◌ {A = Option A} (cond b (Some a) None) (Some c) → (b ≡ true) × (◌≡◌ {A = Option A} (Some a) (Some c))
+pub cond_some : {A : Type 0} (b : Bool) (a c : A) → ◌≡◌ {A = Option A} (cond b (Some a) None) (Some c) → (b ≡ true) × (◌≡◌ {A = Option A} (Some a) (Some c))
 cond_some true a c e = (refl, e)
 cond_some false a c e = cc
 

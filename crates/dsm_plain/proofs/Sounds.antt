@@ -104,7 +104,7 @@ mapped_sound {A} {B} {reader = reader} {marks = marks} made_marks make h same to
       carry made_marks tokens (make p.0) b p.1 rest (same_first (make p.0, p.1) (b, rest) e) (same_second (make p.0, p.1) (b, rest) e)
       (rw (same p.0) (h.reads tokens p.0 p.1 is))
 
-either : {R G : Type 0} (b : Bool) (x y r : R) → (x ≡ r → G) → (y ≡ r → G) → cond b x y ≡ r → G
+pub either : {R G : Type 0} (b : Bool) (x y r : R) → (x ≡ r → G) → (y ≡ r → G) → cond b x y ≡ r → G
 either true x y r one other e = one e
 either false x y r one other e = other e
 

@@ -11,7 +11,6 @@ use Rattle.dsm_plain.specs.declared.tree.Term.{Term}
 use Rattle.dsm_plain.specs.declared.tree.Sum.{Sum}
 use Rattle.dsm_plain.specs.declared.tree.Part.{Part}
 use Rattle.dsm_plain.specs.declared.tree.Statement.{Statement}
-use Rattle.dsm_plain.specs.declared.tree.SmallProgram.{SmallProgram}
 use Rattle.dsm_plain.specs.declared.names.Names.{Names}
 
 -- Marks.
@@ -121,9 +120,12 @@ abbrev pub return_marks : Bool → List Mark
 return_marks true = word Word.Return ∷ kind (TokenKind.Number (pos 0)) ∷ sign Sign.Semicolon ∷ []
 return_marks false = []
 
-abbrev pub program_marks : Names → Bool → SmallProgram → List Mark
-program_marks names returns program =
-    items_marks names program.has_items ++ header_marks ++ all_marks (statement_marks names) program.statements ++ return_marks returns ++ (sign Sign.BraceClose ∷ [])
+-- `main` with its block
+abbrev pub block_marks : Names → Bool → List Statement → List Mark
+block_marks names returns statements = header_marks ++ all_marks (statement_marks names) statements ++ return_marks returns ++ (sign Sign.BraceClose ∷ [])
+
+abbrev pub program_marks : Names → Bool → Bool → List Statement → List Mark
+program_marks names has_items returns statements = items_marks names has_items ++ block_marks names returns statements
 
 -- a name that isn't taken
 pub record IsFree (text : List ℕ) : Type 0 where
@@ -137,9 +139,9 @@ pub record AreNames (names : Names) : Type 0 where
   pub lock : IsFree names.lock
   pub differ : names.cell ≢ names.lock
 
--- the tokens are those of a small program, for some names, with or without the return
-pub record IsSpelled (tokens : List Token) (program : SmallProgram) : Type 0 where
+-- the tokens are those of a program with these statements, for some names, with or without the return
+pub record IsSpelled (tokens : List Token) (has_items : Bool) (statements : List Statement) : Type 0 where
   pub names : Names
   pub are_names : AreNames names
   pub returns : Bool
-  pub spelled : Spells (program_marks names returns program) tokens []
+  pub spelled : Spells (program_marks names has_items returns statements) tokens []
