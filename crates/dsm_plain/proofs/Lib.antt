@@ -6,3 +6,4 @@ pub mod Marks
 pub mod Loops
 pub mod Sounds
 pub mod Wholes
+pub mod Finds
