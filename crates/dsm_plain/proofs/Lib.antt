@@ -7,3 +7,5 @@ pub mod Loops
 pub mod Sounds
 pub mod Wholes
 pub mod Finds
+pub mod FindParts
+pub mod FindWholes

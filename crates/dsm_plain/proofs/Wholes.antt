@@ -8,7 +8,7 @@ use Rattle.dsm_syntax.specs.declared.token.Token.{Token}
 use Rattle.dsm_syntax.specs.declared.token.TokenKind.{TokenKind}
 use Rattle.dsm_plain.specs.declared.tree.Statement.{Statement}
 use Rattle.dsm_plain.specs.declared.names.Names.{Names}
-use Rattle.dsm_plain.specs.Spelling.{Mark, Spells, kind, word, sign, all_marks, statement_marks, item_marks, items_marks, header_marks, return_marks, block_marks, program_marks, IsFree, AreNames, IsSpelled}
+use Rattle.dsm_plain.specs.Spelling.{Mark, Spells, kind, word, sign, all_marks, statement_marks, declared_marks, items_marks, header_marks, return_marks, block_marks, program_marks, IsFree, AreNames, IsSpelled}
 use Rattle.dsm_plain.specs.Reading.{◌>>=◌, mapped, starts, all_expected, name_kind, any_name, is_free, are_names, bind_kinds, header_kinds, return_kinds, after, read_declared, read_items, read_names, read_statements, read_return, read_block, read_program}
 use Rattle.dsm_plain.proofs.Tests.{first_of_both, second_of_both, not_first, not_second, is_false_where_not}
 use Rattle.dsm_plain.proofs.Marks.{Sound, same_first, same_second, some_then, cond_some, spells-append, all_sound, both_sound, after_sound, before_sound, carry}
@@ -52,13 +52,8 @@ names_tell names are =
       differ = differ names.cell names.lock (is_false_where_not _ (second_of_both _ _ are));
     }
 
--- what declares the shared cell and the lock
-declared_marks : Names → List Mark
-declared_marks names =
-    word Word.Shared ∷ word Word.Int ∷ kind (TokenKind.Name names.cell) ∷ sign Sign.Semicolon ∷ word Word.LockType ∷ kind (TokenKind.Name names.lock) ∷ sign Sign.Semicolon ∷ []
-
 declared_sound : Sound declared_marks read_declared
-unfolding declared_marks read_declared
+unfolding read_declared
 declared_sound =
     both_sound
     (after_sound (TokenKind.Word Word.Shared ∷ TokenKind.Word Word.Int ∷ []) (before_sound (TokenKind.Sign Sign.Semicolon ∷ []) any_name_sound))
@@ -68,10 +63,10 @@ declared_sound =
 
 record ItemsRead (names : Names) (tokens rest : List Token) : Type 0 where
   are_names : AreNames names
-  spelled : Spells (item_marks names) tokens rest
+  spelled : Spells (items_marks names true) tokens rest
 
 items_sound : (tokens : List Token) (names : Names) (rest : List Token) → read_items tokens ≡ Some (names, rest) → ItemsRead names tokens rest
-unfolding declared_marks read_items
+unfolding read_items
 items_sound tokens names rest e =
     let p = some_then (read_declared tokens) (λ names. all_expected (bind_kinds names.0) names.1 >>= (λ left. cond (are_names names.0) (Some (names.0, left)) None)) (names, rest) e in
     let q = some_then (all_expected (bind_kinds p.0.0) p.0.1) (λ left. cond (are_names p.0.0) (Some (p.0.0, left)) None) (names, rest) p.2 in
@@ -79,7 +74,7 @@ items_sound tokens names rest e =
     let is : p.0.0 ≡ names = same_first (p.0.0, q.0) (names, rest) r.1 in
     record {
       are_names = names_tell names (ap are_names (sym is) ∙ r.0);
-      spelled = carry item_marks tokens p.0.0 names q.0 rest is (same_second (p.0.0, q.0) (names, rest) r.1)
+      spelled = carry (λ (names : Names). items_marks names true) tokens p.0.0 names q.0 rest is (same_second (p.0.0, q.0) (names, rest) r.1)
         (spells-append (declared_marks p.0.0) (map kind (bind_kinds p.0.0)) tokens p.0.1 q.0 (declared_sound.reads tokens p.0.0 p.0.1 p.1) (all_sound (bind_kinds p.0.0) p.0.1 q.0 q.1));
     }
 

@@ -97,16 +97,20 @@ statement_marks names (Statement.Print parts) =
 
 -- Programs.
 
--- the shared cell, its lock, and what binds them
-abbrev pub item_marks : Names → List Mark
-item_marks names =
-    word Word.Shared ∷ word Word.Int ∷ name names.cell ∷ sign Sign.Semicolon
-    ∷ word Word.LockType ∷ name names.lock ∷ sign Sign.Semicolon
-    ∷ word Word.Bind ∷ sign Sign.ParenOpen ∷ name names.lock ∷ sign Sign.Comma ∷ name names.cell ∷ sign Sign.Comma
+-- what declares the shared cell and the lock
+abbrev pub declared_marks : Names → List Mark
+declared_marks names =
+    word Word.Shared ∷ word Word.Int ∷ name names.cell ∷ sign Sign.Semicolon ∷ word Word.LockType ∷ name names.lock ∷ sign Sign.Semicolon ∷ []
+
+-- what binds them
+abbrev pub bind_marks : Names → List Mark
+bind_marks names =
+    word Word.Bind ∷ sign Sign.ParenOpen ∷ name names.lock ∷ sign Sign.Comma ∷ name names.cell ∷ sign Sign.Comma
     ∷ kind (TokenKind.Number (pos 0)) ∷ sign Sign.Comma ∷ kind (TokenKind.Number (pos 1)) ∷ sign Sign.ParenClose ∷ sign Sign.Semicolon ∷ []
 
+-- the items, where they stand
 abbrev pub items_marks : Names → Bool → List Mark
-items_marks names true = item_marks names
+items_marks names true = declared_marks names ++ bind_marks names
 items_marks names false = []
 
 -- `int main(int me, int n) {`
