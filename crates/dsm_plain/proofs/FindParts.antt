@@ -1,9 +1,7 @@
 -- The readers of expressions and statements find what the tokens spell.
-use Rattle.std.proofs.Common.{◌≡◌, ◌≢◌, ℕ, ◌≤◌, ◌<◌, Bool, true, false, ◌||◌, not, cond, List, [], ◌∷◌, ◌++◌, length, codes, nat_eq, Option, Some, None, refl, ap, sym, subst, ◌∙◌, inl, inr, arith}
-use Rattle.std.specs.Prelude.{◌⊎◌}
+use Rattle.std.proofs.Common.{◌≡◌, ◌≢◌, ℕ, ◌<◌, Bool, true, false, ◌||◌, not, List, [], ◌∷◌, ◌++◌, length, codes, nat_eq, Option, Some, None, refl, subst, inl, inr, arith}
 use Rattle.std.specs.List.{list_any, list_all}
 use Rattle.std.specs.Cmp.Lexicographic.{pointwise, bytes_decides}
-use Rattle.std.proofs.lemmas.Bool.{leb-true}
 use Rattle.dsm_syntax.specs.declared.sign.Sign.{Sign}
 use Rattle.dsm_syntax.specs.declared.word.Word.{Word}
 use Rattle.dsm_syntax.specs.declared.token.Token.{Token}
@@ -19,7 +17,7 @@ use Rattle.dsm_plain.specs.declared.names.Names.{Names}
 use Rattle.dsm_plain.specs.Kinds.{same_kind}
 use Rattle.dsm_plain.specs.Limits.{is_shared, product_loads, sum_loads, is_small_sum, is_small_part, are_small_parts, is_small_statement}
 use Rattle.dsm_plain.specs.Spelling.{Mark, Spells, AreNames, kind, kind_at, word, sign, all_marks, operand_marks, factor_marks, product_marks, term_marks, sum_marks, part_marks, more_part_marks, parts_marks, statement_marks}
-use Rattle.dsm_plain.specs.Reading.{◌>>=◌, Reader, mapped, starts, is_cell, operand_named, operand_of, read_operand, read_factor, read_factors, read_product, read_term, read_terms, read_sum, next_string, string_kind, part_by, read_part, read_more_part, read_more_parts, read_parts, read_print, read_lock, read_assign, read_named, read_statement, read_statements, statement_comes, before, one_expected}
+use Rattle.dsm_plain.specs.Reading.{◌>>=◌, starts, is_cell, read_operand, read_factor, read_factors, read_product, read_term, read_terms, read_sum, next_string, read_part, read_more_part, read_more_parts, read_parts, read_print, read_lock, read_assign, read_named, read_statement, read_statements, statement_comes, before, one_expected}
 use Rattle.dsm_plain.proofs.Tests.{first_of_both, second_of_both}
 use Rattle.dsm_plain.proofs.Marks.{spells-split}
 use Rattle.dsm_plain.proofs.Sounds.{text_tells}

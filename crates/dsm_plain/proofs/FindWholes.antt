@@ -1,7 +1,5 @@
 -- The reader of programs finds what the tokens spell.
-use Rattle.std.proofs.Common.{◌≡◌, ◌≢◌, ℕ, Bool, true, false, ◌&&◌, ◌||◌, not, cond, List, [], ◌∷◌, ◌++◌, length, map, drop, codes, nat_eq, Option, Some, None, is_some, refl, ap, sym, subst, ◌∙◌, inl, inr, arith}
-use Rattle.std.specs.List.{list_all}
-use Rattle.std.specs.Cmp.Lexicographic.{pointwise}
+use Rattle.std.proofs.Common.{◌≡◌, ℕ, Bool, true, false, List, [], ◌∷◌, ◌++◌, map, drop, codes, Option, Some, is_some, refl}
 use Rattle.dsm_syntax.specs.declared.sign.Sign.{Sign}
 use Rattle.dsm_syntax.specs.declared.word.Word.{Word}
 use Rattle.dsm_syntax.specs.declared.token.Token.{Token}
@@ -9,10 +7,10 @@ use Rattle.dsm_syntax.specs.declared.token.TokenKind.{TokenKind}
 use Rattle.dsm_plain.specs.declared.tree.Statement.{Statement}
 use Rattle.dsm_plain.specs.declared.names.Names.{Names}
 use Rattle.dsm_plain.specs.Limits.{is_small, is_small_statement}
-use Rattle.dsm_plain.specs.Spelling.{Mark, Spells, kind, word, sign, all_marks, statement_marks, declared_marks, items_marks, header_marks, return_marks, block_marks, program_marks, IsFree, AreNames, IsSpelled}
-use Rattle.dsm_plain.specs.Reading.{◌>>=◌, mapped, starts, all_expected, any_name, is_free, are_names, bind_kinds, header_kinds, return_kinds, after, before, read_declared, read_items, read_names, read_statements, statement_comes, read_return, read_block, read_program}
-use Rattle.dsm_plain.proofs.Marks.{spells-split, spells-append, is_exact}
-use Rattle.dsm_plain.proofs.Finds.{Finds, Any, Each, starts_mark, both_find, after_finds, before_finds, all_find}
+use Rattle.dsm_plain.specs.Spelling.{Spells, kind, word, sign, all_marks, statement_marks, declared_marks, items_marks, header_marks, return_marks, block_marks, IsFree, AreNames, IsSpelled}
+use Rattle.dsm_plain.specs.Reading.{starts, any_name, is_free, are_names, bind_kinds, header_kinds, return_kinds, after, read_declared, read_items, read_names, read_statements, statement_comes, read_return, read_block, read_program}
+use Rattle.dsm_plain.proofs.Marks.{spells-split, spells-append}
+use Rattle.dsm_plain.proofs.Finds.{Finds, Any, starts_mark, both_find, after_finds, before_finds, all_find}
 use Rattle.dsm_plain.proofs.FindParts.{given, other_text, each_of_all, statements_find}
 
 -- Names.

@@ -1,12 +1,12 @@
 -- Readers find what the tokens spell.
-use Rattle.std.proofs.Common.{◌≡◌, ℕ, zero, suc, ◌+◌, ◌≤◌, ◌<◌, Bool, true, false, cond, List, [], ◌∷◌, ◌++◌, length, map, Option, Some, None, refl, ap, sym, ◌∙◌, arith}
+use Rattle.std.proofs.Common.{◌≡◌, ℕ, zero, suc, ◌≤◌, ◌<◌, Bool, true, false, List, [], ◌∷◌, ◌++◌, length, map, Option, Some, refl, ap, ◌∙◌, arith}
 use Rattle.std.specs.List.{list_all}
 use Rattle.std.proofs.Math.ListN.{length-append}
 use Rattle.dsm_syntax.specs.declared.token.Token.{Token}
 use Rattle.dsm_syntax.specs.declared.token.TokenKind.{TokenKind}
 use Rattle.dsm_plain.specs.Kinds.{same_kind}
 use Rattle.dsm_plain.specs.Spelling.{Mark, kind, kind_at, Spells, all_marks}
-use Rattle.dsm_plain.specs.Reading.{◌>>=◌, Reader, starts, one_expected, all_expected, both, after, before, many, all_of, next_string, string_kind}
+use Rattle.dsm_plain.specs.Reading.{Reader, starts, one_expected, all_expected, both, after, before, many, all_of, next_string, string_kind}
 use Rattle.dsm_plain.proofs.Tests.{first_of_both, second_of_both}
 use Rattle.dsm_plain.proofs.Marks.{is_exact, same_kind-same, spells-split, spells-length}
 

@@ -9,3 +9,4 @@ pub mod Wholes
 pub mod Finds
 pub mod FindParts
 pub mod FindWholes
+pub mod Exact

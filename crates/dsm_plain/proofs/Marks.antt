@@ -1,16 +1,14 @@
 -- Reading one thing after another, and the marks of what is read.
-use Rattle.std.proofs.Common.{◌≡◌, ℕ, zero, suc, ◌+◌, ◌≤◌, ◌<◌, Bool, true, false, cond, List, [], ◌∷◌, ◌++◌, length, map, Option, Some, None, refl, subst, ap, sym, ◌∙◌, arith}
-use Rattle.std.specs.Prelude.{IfSome}
+use Rattle.std.proofs.Common.{◌≡◌, ℕ, zero, suc, ◌+◌, Bool, true, false, cond, List, [], ◌∷◌, ◌++◌, length, map, Option, Some, None, refl, subst, ap, arith}
 use Rattle.std.specs.Cmp.Lexicographic.{bytes_decides}
 use Rattle.std.proofs.lemmas.Bool.Decides.{Decides-int_eq}
 use denote.Enum.Bare.{same_true, true_same}
 use Rattle.dsm_syntax.specs.contracts.sign.Sign as sign
 use Rattle.dsm_syntax.specs.contracts.word.Word as word
-use Rattle.dsm_syntax.specs.declared.sign.Sign.{Sign}
 use Rattle.dsm_syntax.specs.declared.token.Token.{Token}
 use Rattle.dsm_syntax.specs.declared.token.TokenKind.{TokenKind}
 use Rattle.dsm_plain.specs.Kinds.{same_kind}
-use Rattle.dsm_plain.specs.Spelling.{Mark, kind, kind_at, IsMark, Spells, all_marks}
+use Rattle.dsm_plain.specs.Spelling.{Mark, kind, kind_at, Spells, all_marks}
 use Rattle.dsm_plain.specs.Reading.{◌>>=◌, Reader, one_expected, all_expected, both, after, before, many, all_of}
 
 -- one after the other, the marks too

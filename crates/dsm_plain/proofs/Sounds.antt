@@ -1,5 +1,5 @@
 -- What is read has the marks of the grammar.
-use Rattle.std.proofs.Common.{◌≡◌, ◌≢◌, ◌<◌, ℕ, Bool, true, false, cond, List, [], ◌∷◌, ◌++◌, length, drop, map, codes, nat_eq, Option, Some, None, refl, sym, ap, ◌∙◌, inl, inr, arith}
+use Rattle.std.proofs.Common.{◌≡◌, ◌≢◌, ◌<◌, ℕ, Bool, true, false, cond, List, [], ◌∷◌, length, codes, nat_eq, Option, Some, None, refl, sym, ap, ◌∙◌, inl, inr, arith}
 use Rattle.std.specs.Prelude.{◌⊎◌}
 use Rattle.std.specs.Cmp.Lexicographic.{pointwise, bytes_decides}
 use Rattle.dsm_syntax.specs.declared.sign.Sign.{Sign}
@@ -7,15 +7,11 @@ use Rattle.dsm_syntax.specs.declared.word.Word.{Word}
 use Rattle.dsm_syntax.specs.declared.token.Token.{Token}
 use Rattle.dsm_syntax.specs.declared.token.TokenKind.{TokenKind}
 use Rattle.dsm_plain.specs.declared.tree.Operand.{Operand}
-use Rattle.dsm_plain.specs.declared.tree.Factor.{Factor}
-use Rattle.dsm_plain.specs.declared.tree.Product.{Product}
-use Rattle.dsm_plain.specs.declared.tree.Term.{Term}
-use Rattle.dsm_plain.specs.declared.tree.Sum.{Sum}
 use Rattle.dsm_plain.specs.declared.tree.Part.{Part}
 use Rattle.dsm_plain.specs.declared.tree.Statement.{Statement}
 use Rattle.dsm_plain.specs.declared.names.Names.{Names}
 use Rattle.dsm_plain.specs.Spelling.{Mark, Spells, kind_at, word, sign, all_marks, operand_marks, factor_marks, product_marks, term_marks, sum_marks, part_marks, more_part_marks, parts_marks, statement_marks}
-use Rattle.dsm_plain.specs.Reading.{◌>>=◌, Reader, mapped, starts, is_cell, operand_named, operand_of, read_operand, read_factor, read_factors, read_product, read_term, read_terms, read_sum, next_string, string_kind, part_by, read_part, read_more_part, read_more_parts, read_parts, read_print, read_lock, read_assign, read_named, read_statement, read_statements, statement_comes}
+use Rattle.dsm_plain.specs.Reading.{◌>>=◌, Reader, mapped, starts, operand_named, operand_of, read_operand, read_factor, read_factors, read_product, read_term, read_terms, read_sum, next_string, string_kind, part_by, read_part, read_more_part, read_more_parts, read_parts, read_print, read_lock, read_assign, read_named, read_statement, read_statements, statement_comes}
 use Rattle.dsm_plain.proofs.Marks.{Sound, same_first, same_second, some_then, both_sound, one_sound, after_sound, before_sound, all_of_sound, carry}
 use Rattle.dsm_plain.proofs.Loops.{Shortens, sound_shortens}
 

@@ -1,5 +1,5 @@
 -- Whole programs that are read have the marks of the grammar.
-use Rattle.std.proofs.Common.{◌≡◌, ◌≢◌, ℕ, Bool, true, false, ◌&&◌, ◌||◌, not, cond, List, [], ◌∷◌, ◌++◌, length, map, codes, nat_eq, Option, Some, None, is_some, refl, sym, ap, ◌∙◌, arith}
+use Rattle.std.proofs.Common.{◌≡◌, ◌≢◌, ℕ, Bool, true, false, cond, List, [], ◌∷◌, ◌++◌, length, map, codes, nat_eq, Option, Some, None, is_some, refl, sym, ap, ◌∙◌, arith}
 use Rattle.std.specs.Cmp.Lexicographic.{pointwise, bytes_decides}
 use Rattle.std.proofs.lemmas.Bool.{eqb-true}
 use Rattle.dsm_syntax.specs.declared.sign.Sign.{Sign}
@@ -8,7 +8,7 @@ use Rattle.dsm_syntax.specs.declared.token.Token.{Token}
 use Rattle.dsm_syntax.specs.declared.token.TokenKind.{TokenKind}
 use Rattle.dsm_plain.specs.declared.tree.Statement.{Statement}
 use Rattle.dsm_plain.specs.declared.names.Names.{Names}
-use Rattle.dsm_plain.specs.Spelling.{Mark, Spells, kind, word, sign, all_marks, statement_marks, declared_marks, items_marks, header_marks, return_marks, block_marks, program_marks, IsFree, AreNames, IsSpelled}
+use Rattle.dsm_plain.specs.Spelling.{Spells, kind, sign, all_marks, statement_marks, declared_marks, items_marks, header_marks, return_marks, block_marks, program_marks, IsFree, AreNames, IsSpelled}
 use Rattle.dsm_plain.specs.Reading.{◌>>=◌, mapped, starts, all_expected, name_kind, any_name, is_free, are_names, bind_kinds, header_kinds, return_kinds, after, read_declared, read_items, read_names, read_statements, read_return, read_block, read_program}
 use Rattle.dsm_plain.proofs.Tests.{first_of_both, second_of_both, not_first, not_second, is_false_where_not}
 use Rattle.dsm_plain.proofs.Marks.{Sound, same_first, same_second, some_then, cond_some, spells-append, all_sound, both_sound, after_sound, before_sound, carry}

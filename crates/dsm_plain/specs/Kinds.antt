@@ -1,12 +1,10 @@
 -- Which token is expected.
-use Rattle.std.specs.Prelude.{ℕ, Bool, true, false, List, [], ◌∷◌, Option, Some, None, if◌then◌else◌, nat_eq}
+use Rattle.std.specs.Prelude.{Bool, false, nat_eq}
 use Rattle.std.specs.Ordering.{int_eq}
 use Rattle.std.specs.Cmp.Lexicographic.{pointwise}
 use denote.Enum.Bare.{sameb}
 use Rattle.dsm_syntax.specs.contracts.sign.Sign as sign
 use Rattle.dsm_syntax.specs.contracts.word.Word as word
-use Rattle.dsm_syntax.specs.declared.sign.Sign.{Sign}
-use Rattle.dsm_syntax.specs.declared.word.Word.{Word}
 use Rattle.dsm_syntax.specs.declared.token.TokenKind.{TokenKind}
 use Rattle.dsm_plain.specs.declared.cursor.Expected.{Expected}
 

@@ -16,6 +16,10 @@ mod thread;
 mod tree;
 mod value;
 
+pub use program::SharedProgram;
+pub use reader::read_small;
+pub use state::SmallState;
+pub use thread::{SmallMaker, SmallThread};
 pub use tree::{
     Factor, Factors, Operand, Part, Parts, Product, SmallProgram, Statement, Statements, Sum, Term,
     Terms,

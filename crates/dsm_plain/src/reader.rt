@@ -1,18 +1,21 @@
 //! Reads small programs.
 
-ghost use Rattle.std.specs.Prelude.{◌≡◌};
+ghost use Rattle.std.specs.Prelude.{◌≡◌, IfOk};
 ghost use Rattle.std.specs.Option.{option_copied};
 ghost use Rattle.dsm_plain.specs.Reading.{all_expected, bind_kinds, is_free, read_declared, read_items, read_names, read_return, read_block, read_program};
 ghost use Rattle.dsm_plain.specs.Reads.{Gives, GivesRest, GivesAll};
+ghost use Rattle.dsm_plain.specs.Answers.{Answers, IsTextOf};
+ghost use Rattle.dsm_plain.specs.declared.tree.SmallProgram.{SmallProgram};
 
 use crate::cursor::{Cursor, Expected, Refusal};
+use crate::limits::is_small;
 use crate::names::Names;
 use crate::statement::{
     BRACE_CLOSE, COMMA, PAREN_CLOSE, PAREN_OPEN, RETURN, SEMICOLON, statements,
 };
-use crate::tree::Statements;
+use crate::tree::{SmallProgram, Statements};
 use dsm_base::Text;
-use dsm_syntax::{Sign, Token, Word};
+use dsm_syntax::{ProgErr, Sign, Token, Tokens, Word};
 use std::alloc::Global;
 
 /// `int main(int me, int n) {`
@@ -147,4 +150,25 @@ fn program(alloc: Global, tokens: &[Token]) -> Result<(bool, Statements), Refusa
         return Err(Refusal::NotSmall);
     }
     Ok((names.is_some(), statements))
+}
+
+/// Reads a small program. `NotBuilt` exactly where the tokens aren't those of one; `Memory` for
+/// want of memory.
+pub fn read_small(alloc: Global, tokens: &Tokens) -> Result<SmallProgram, ProgErr>
+    ensures answers { Answers tokens.now result }
+    ensures only { (program : SmallProgram) → IsTextOf program tokens.now → IfOk result (λ found. found ≡ program) }
+{
+    match program(alloc, tokens.as_slice()) {
+        Ok((has_items, statements)) => {
+            if !is_small(has_items, statements.as_slice()) {
+                return Err(ProgErr::NotBuilt { line: 0 });
+            }
+            Ok(SmallProgram {
+                has_items,
+                statements,
+            })
+        }
+        Err(Refusal::NotSmall) => Err(ProgErr::NotBuilt { line: 0 }),
+        Err(Refusal::Memory) => Err(ProgErr::Memory),
+    }
 }
