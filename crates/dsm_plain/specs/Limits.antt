@@ -1,7 +1,6 @@
 -- Which programs are small.
 use Rattle.std.specs.Prelude.{ℕ, ◌+◌, Bool, true, false, ◌&&◌, ◌||◌, not, nat_le, List, length, sum_by}
 use Rattle.std.specs.List.{list_any, list_all}
-use Rattle.dsm_plain.specs.declared.limits.TheConstants.{MOST_OPERATORS, MOST_PARTS, MOST_TEXT}
 use Rattle.dsm_plain.specs.declared.tree.Operand.{Operand}
 use Rattle.dsm_plain.specs.declared.tree.Product.{Product}
 use Rattle.dsm_plain.specs.declared.tree.Term.{Term}
@@ -33,7 +32,7 @@ sum_loads sum = product_loads sum.first || list_any (λ term. product_loads term
 
 -- an expression has at most 16 operators, and loads the shared cell only where it is declared
 abbrev pub is_small_sum : Bool → Sum → Bool
-is_small_sum has_items sum = nat_le (operators sum) MOST_OPERATORS && (has_items || not (sum_loads sum))
+is_small_sum has_items sum = nat_le (operators sum) 16 && (has_items || not (sum_loads sum))
 
 abbrev pub text_length : Part → ℕ
 text_length (Part.Text text) = length text
@@ -46,7 +45,7 @@ is_small_part has_items (Part.Value sum) = is_small_sum has_items sum
 -- a print has one to eight parts, and at most 96 bytes of strings
 abbrev pub are_small_parts : Bool → List Part → Bool
 are_small_parts has_items parts =
-    nat_le 1 (length parts) && nat_le (length parts) MOST_PARTS && nat_le (sum_by text_length parts) MOST_TEXT && list_all (is_small_part has_items) parts
+    nat_le 1 (length parts) && nat_le (length parts) 8 && nat_le (sum_by text_length parts) 96 && list_all (is_small_part has_items) parts
 
 -- the lock and the shared cell are named only where they are declared
 abbrev pub is_small_statement : Bool → Statement → Bool

@@ -51,7 +51,7 @@ impl Sum {
     }
 
     fn has_few_operators(&self) -> bool
-        ensures { result ≡ nat_le (operators self.now) MOST_OPERATORS }
+        ensures { result ≡ nat_le (operators self.now) 16 }
     {
         let Some(mut left) = MOST_OPERATORS.checked_sub(self.first.more.len()) else {
             return false;
@@ -94,7 +94,7 @@ impl Part {
 }
 
 fn have_short_texts(parts: &[Part]) -> bool
-    ensures { result ≡ nat_le (sum_by text_length parts.now) MOST_TEXT }
+    ensures { result ≡ nat_le (sum_by text_length parts.now) 96 }
 {
     let mut left = MOST_TEXT;
     for part in parts {

@@ -1,6 +1,6 @@
 //! Threads of small programs.
 
-ghost use Rattle.std.specs.Prelude.{◌≡◌, Some};
+ghost use Rattle.std.specs.Prelude.{◌≡◌, Some, IfOk};
 ghost use Rattle.std.specs.Option.{ForSome};
 ghost use Rattle.dsm_base.specs.declared.label.Want.TheVariants as wants;
 ghost use Rattle.dsm_plain.specs.Meaning.{small_want, small_text};
@@ -8,6 +8,7 @@ ghost use Rattle.dsm_plain.specs.Meaning.{small_want, small_text};
 use crate::program::SharedProgram;
 use crate::room::{Answers, Line};
 use crate::state::SmallState;
+use crate::tree::SmallProgram;
 use crate::value::Identity;
 use dsm_base::{Fault, MemFault, Proc, Task, TaskMaker, Want};
 use std::alloc::Global;
@@ -67,6 +68,16 @@ impl Task for SmallThread {
 #[derive(Drop)]
 pub struct SmallMaker {
     pub program: SharedProgram,
+}
+
+impl SmallMaker {
+    pub fn new(alloc: Global, program: SmallProgram) -> Result<SmallMaker, MemFault>
+        ensures { IfOk result (λ maker. maker.program ≡ program) }
+    {
+        Ok(SmallMaker {
+            program: SharedProgram::new(alloc, program)?,
+        })
+    }
 }
 
 impl TaskMaker for SmallMaker {

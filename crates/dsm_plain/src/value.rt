@@ -74,14 +74,14 @@ impl Product {
     fn value(&self, who: Identity, answers: &mut AnswersLeft<'_>) -> Result<i64, Halt>
         ensures { outcome result answers.new ≡ product_value who self.now answers.old }
     {
-        let mut value = self.first.value(who, answers)?;
+        let mut product = self.first.value(who, answers)?;
         for factor in self.more.as_slice() {
             let other = factor.operand.value(who, answers)?;
-            value = value
+            product = product
                 .checked_mul(other)
                 .ok_or(Halt::Overflow { line: factor.line })?;
         }
-        Ok(value)
+        Ok(product)
     }
 }
 
@@ -91,13 +91,13 @@ impl Sum {
     pub fn value(&self, who: Identity, answers: &mut AnswersLeft<'_>) -> Result<i64, Halt>
         ensures { outcome result answers.new ≡ sum_value who self.now answers.old }
     {
-        let mut value = self.first.value(who, answers)?;
+        let mut sum = self.first.value(who, answers)?;
         for term in self.more.as_slice() {
             let other = term.product.value(who, answers)?;
-            value = value
+            sum = sum
                 .checked_add(other)
                 .ok_or(Halt::Overflow { line: term.line })?;
         }
-        Ok(value)
+        Ok(sum)
     }
 }
