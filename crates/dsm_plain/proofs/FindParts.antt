@@ -18,7 +18,7 @@ use Rattle.dsm_plain.specs.Kinds.{same_kind}
 use Rattle.dsm_plain.specs.Limits.{is_shared, product_loads, sum_loads, is_small_sum, is_small_part, are_small_parts, is_small_statement}
 use Rattle.dsm_plain.specs.Spelling.{Mark, Spells, AreNames, kind, kind_at, word, sign, all_marks, operand_marks, factor_marks, product_marks, term_marks, sum_marks, part_marks, more_part_marks, parts_marks, statement_marks}
 use Rattle.dsm_plain.specs.Reading.{◌>>=◌, starts, is_cell, read_operand, read_factor, read_factors, read_product, read_term, read_terms, read_sum, next_string, read_part, read_more_part, read_more_parts, read_parts, read_print, read_lock, read_assign, read_named, read_statement, read_statements, statement_comes, before, one_expected}
-use Rattle.dsm_plain.proofs.Tests.{first_of_both, second_of_both}
+use Rattle.dsm_plain.proofs.Told.{first_of_both, second_of_both}
 use Rattle.dsm_plain.proofs.Marks.{spells-split}
 use Rattle.dsm_plain.proofs.Sounds.{text_tells}
 use Rattle.dsm_plain.proofs.Finds.{Finds, Any, Each, starts_mark, string_mark, both_finds, both_find, one_finds, after_finds, before_finds, follows_items, all_of_finds}
@@ -181,9 +181,10 @@ module _ (has_items : Bool) (names : Names) (are : AreNames names) where
   more_part_finds = after_finds (TokenKind.Sign Sign.Comma ∷ []) refl part_finds
 
   no_operator_at_more : (part : Part) (tokens rest : List Token) → Spells (more_part_marks names part) tokens rest → NoOperator tokens
-  no_operator_at_more part tokens rest h =
-      (starts_mark (sign Sign.Comma) (part_marks names part) tokens rest (TokenKind.Sign Sign.Plus) h,
-      (starts_mark (sign Sign.Comma) (part_marks names part) tokens rest (TokenKind.Sign Sign.Star) h, tt))
+  no_operator_at_more part tokens rest h = (
+    starts_mark (sign Sign.Comma) (part_marks names part) tokens rest (TokenKind.Sign Sign.Plus) h,
+    (starts_mark (sign Sign.Comma) (part_marks names part) tokens rest (TokenKind.Sign Sign.Star) h, tt),
+  )
 
   abbrev NoComma : List Token → Type 0
   NoComma rest = (starts (TokenKind.Sign Sign.Comma) rest ≡ false) × NoOperator rest
@@ -199,6 +200,7 @@ module _ (has_items : Bool) (names : Names) (are : AreNames names) where
     more_finds =
         all_of_finds (starts (TokenKind.Sign Sign.Comma)) more_part_finds
         (λ part tokens rest h. starts_mark (sign Sign.Comma) (part_marks names part) tokens rest (TokenKind.Sign Sign.Comma) h) no_operator_at_more (λ part. omega arith)
+
     at : (tokens : List Token) (parts : List Part) (rest : List Token) → GoodParts parts → NoComma rest → Spells (parts_marks names parts) tokens rest
         → ◌≡◌ {A = Option (List Part × List Token)} (read_parts (given has_items names) tokens) (Some (parts, rest))
     at tokens [] rest good follows h = absurd good
@@ -214,10 +216,13 @@ module _ (has_items : Bool) (names : Names) (are : AreNames names) where
   unfolding read_print
   print_finds =
       after_finds (TokenKind.Word Word.Print ∷ TokenKind.Sign Sign.ParenOpen ∷ []) refl
-      (before_finds (TokenKind.Sign Sign.ParenClose ∷ TokenKind.Sign Sign.Semicolon ∷ []) refl parts_finds (λ middle rest h.
-      (starts_mark (sign Sign.ParenClose) (sign Sign.Semicolon ∷ []) middle rest (TokenKind.Sign Sign.Comma) h,
-      (starts_mark (sign Sign.ParenClose) (sign Sign.Semicolon ∷ []) middle rest (TokenKind.Sign Sign.Plus) h,
-      (starts_mark (sign Sign.ParenClose) (sign Sign.Semicolon ∷ []) middle rest (TokenKind.Sign Sign.Star) h, tt)))))
+      (before_finds (TokenKind.Sign Sign.ParenClose ∷ TokenKind.Sign Sign.Semicolon ∷ []) refl parts_finds (λ middle rest h. (
+        starts_mark (sign Sign.ParenClose) (sign Sign.Semicolon ∷ []) middle rest (TokenKind.Sign Sign.Comma) h,
+        (
+          starts_mark (sign Sign.ParenClose) (sign Sign.Semicolon ∷ []) middle rest (TokenKind.Sign Sign.Plus) h,
+          (starts_mark (sign Sign.ParenClose) (sign Sign.Semicolon ∷ []) middle rest (TokenKind.Sign Sign.Star) h, tt),
+        ),
+      )))
 
   lock_finds : (w : Word) → Finds Any Any (λ line. word w ∷ sign Sign.ParenOpen ∷ kind_at (TokenKind.Name names.lock) line ∷ sign Sign.ParenClose ∷ sign Sign.Semicolon ∷ []) (read_lock w names)
   unfolding read_lock
@@ -235,24 +240,26 @@ module _ (has_items : Bool) (names : Names) (are : AreNames names) where
       let parts = spells-split (kind_at (TokenKind.Name names.cell) line ∷ sign Sign.Assign ∷ []) (sum_marks names value ++ (sign Sign.Semicolon ∷ [])) tokens rest h in
       let first = (before_finds {follows = Any} (TokenKind.Sign Sign.Assign ∷ []) refl (one_finds (TokenKind.Name names.cell) refl) (λ middle rest h. tt)).finds tokens line parts.0 tt tt parts.1 in
       let second = (before_finds (TokenKind.Sign Sign.Semicolon ∷ []) refl (sum_finds_given declared) (λ middle rest h.
-        (starts_mark (sign Sign.Semicolon) [] middle rest (TokenKind.Sign Sign.Plus) h, (starts_mark (sign Sign.Semicolon) [] middle rest (TokenKind.Sign Sign.Star) h, tt)))).finds
-        parts.0 value rest good tt parts.2 in
+      (starts_mark (sign Sign.Semicolon) [] middle rest (TokenKind.Sign Sign.Plus) h, (starts_mark (sign Sign.Semicolon) [] middle rest (TokenKind.Sign Sign.Star) h, tt)))).finds
+      parts.0 value rest good tt parts.2 in
       both_finds (before (one_expected (TokenKind.Name names.cell)) (TokenKind.Sign Sign.Assign ∷ [])) (before (read_sum (Some names)) (TokenKind.Sign Sign.Semicolon ∷ [])) Statement.Assign
       tokens parts.0 rest line value first second
 
   -- What is small is good.
 
   good_product : (product : Product) → May (product_loads product) → GoodProduct product
-  good_product product may =
-      (may_first (is_shared product.first) (list_any (λ (factor : Factor). is_shared factor.operand) product.more) may,
-      may_each (λ (factor : Factor). is_shared factor.operand) product.more (may_second (is_shared product.first) (list_any (λ (factor : Factor). is_shared factor.operand) product.more) may))
+  good_product product may = (
+    may_first (is_shared product.first) (list_any (λ (factor : Factor). is_shared factor.operand) product.more) may,
+    may_each (λ (factor : Factor). is_shared factor.operand) product.more (may_second (is_shared product.first) (list_any (λ (factor : Factor). is_shared factor.operand) product.more) may),
+  )
 
   good_sum : (sum : Sum) → is_small_sum has_items sum ≡ true → GoodSum sum
   good_sum sum small =
-      let may : May (sum_loads sum) = unless has_items (sum_loads sum) (second_of_both _ _ small) in
-      (good_product sum.first (may_first (product_loads sum.first) (list_any (λ (term : Term). product_loads term.product) sum.more) may),
-      each_as (λ term may. good_product term.product may) sum.more
-      (may_each (λ (term : Term). product_loads term.product) sum.more (may_second (product_loads sum.first) (list_any (λ (term : Term). product_loads term.product) sum.more) may)))
+      let may : May (sum_loads sum) = unless has_items (sum_loads sum) (second_of_both _ _ small) in (
+        good_product sum.first (may_first (product_loads sum.first) (list_any (λ (term : Term). product_loads term.product) sum.more) may),
+        each_as (λ term may. good_product term.product may) sum.more
+            (may_each (λ (term : Term). product_loads term.product) sum.more (may_second (product_loads sum.first) (list_any (λ (term : Term). product_loads term.product) sum.more) may)),
+      )
 
   good_part : (part : Part) → is_small_part has_items part ≡ true → GoodPart part
   good_part (Part.Text text) small = tt

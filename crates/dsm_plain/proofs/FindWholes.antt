@@ -79,8 +79,8 @@ block_finds has_items returns names statements tokens rest are small h =
     let returned = spells-split (header_marks ++ all_marks (statement_marks names) statements) (return_marks returns) tokens last.0 last.1 in
     let ended : statement_comes returned.0 ≡ false = ends_statements returns returned.0 rest (spells-append (return_marks returns) (sign Sign.BraceClose ∷ []) returned.0 last.0 rest returned.2 last.2) in
     let first : after header_kinds (read_statements (given has_items names)) tokens ≡ Some (statements, returned.0) =
-        (after_finds header_kinds refl (statements_find has_items names are)).finds tokens statements returned.0
-        (each_of_all (is_small_statement has_items) statements small) (ended, tt) returned.1 in
+    (after_finds header_kinds refl (statements_find has_items names are)).finds tokens statements returned.0
+    (each_of_all (is_small_statement has_items) statements small) (ended, tt) returned.1 in
     rw (first, return_finds returns returned.0 last.0 rest returned.2 last.2, all_find (TokenKind.Sign Sign.BraceClose ∷ []) last.0 rest refl last.2) refl
 
 -- The program.
@@ -95,5 +95,8 @@ pub program_finds : (tokens : List Token) (has_items : Bool) (statements : List 
 unfolding read_program
 program_finds tokens has_items statements small h =
     let parts = spells-split (items_marks h.names has_items) (block_marks h.names h.returns statements) tokens [] h.spelled in
-    rw (names_find has_items h.returns h.names statements tokens parts.0 [] h.are_names parts.1 parts.2,
-    block_finds has_items h.returns h.names statements parts.0 [] h.are_names small parts.2, is_some_given has_items h.names) refl
+    rw (
+      names_find has_items h.returns h.names statements tokens parts.0 [] h.are_names parts.1 parts.2,
+      block_finds has_items h.returns h.names statements parts.0 [] h.are_names small parts.2,
+      is_some_given has_items h.names,
+    ) refl

@@ -7,7 +7,7 @@ use Rattle.dsm_syntax.specs.declared.token.TokenKind.{TokenKind}
 use Rattle.dsm_plain.specs.Kinds.{same_kind}
 use Rattle.dsm_plain.specs.Spelling.{Mark, kind, kind_at, Spells, all_marks}
 use Rattle.dsm_plain.specs.Reading.{Reader, starts, one_expected, all_expected, both, after, before, many, all_of, next_string, string_kind}
-use Rattle.dsm_plain.proofs.Tests.{first_of_both, second_of_both}
+use Rattle.dsm_plain.proofs.Told.{first_of_both, second_of_both}
 use Rattle.dsm_plain.proofs.Marks.{is_exact, same_kind-same, spells-split, spells-length}
 
 -- What the first mark tells of the first token.
@@ -40,12 +40,14 @@ pub both_find : {A B C : Type 0} {first : Reader A} {second : Reader B} {good_fi
     → ((c : C) → good c → good_second (right c)) → ((c : C) (middle rest : List Token) → follows rest → Spells (second_marks (right c)) middle rest → follows_first middle)
     → Finds good follows marks (both first second make)
 both_find {C = C} {first = first} {second = second} {first_marks = first_marks} {second_marks = second_marks} {marks = marks} one other make left right eta is good_left good_right next =
-    record { finds = λ tokens c rest good follows h.
-    let parts = spells-split (first_marks (left c)) (second_marks (right c)) tokens rest (rw is at h) in
-    let found = both_finds first second make tokens parts.0 rest (left c) (right c)
-      (one.finds tokens (left c) parts.0 (good_left c good) (next c parts.0 rest follows parts.2) parts.1)
-      (other.finds parts.0 (right c) rest (good_right c good) follows parts.2) in
-    found ∙ ap (λ (c : C). Some (c, rest)) (eta c) }
+    record {
+      finds = λ tokens c rest good follows h.
+          let parts = spells-split (first_marks (left c)) (second_marks (right c)) tokens rest (rw is at h) in
+          let found = both_finds first second make tokens parts.0 rest (left c) (right c)
+          (one.finds tokens (left c) parts.0 (good_left c good) (next c parts.0 rest follows parts.2) parts.1)
+          (other.finds parts.0 (right c) rest (good_right c good) follows parts.2) in
+          found ∙ ap (λ (c : C). Some (c, rest)) (eta c);
+    }
 
 pub one_finds : (k : TokenKind) → is_exact k ≡ true → Finds Any Any (λ line. kind_at k line ∷ []) (one_expected k)
 one_finds k exact = record { finds = at } where
@@ -65,16 +67,20 @@ all_find (k ∷ kinds) (token ∷ tokens) rest exact h =
 pub after_finds : {A : Type 0} {reader : Reader A} {good : A → Type 0} {follows : List Token → Type 0} {marks : A → List Mark} (kinds : List TokenKind) → list_all is_exact kinds ≡ true
     → Finds good follows marks reader → Finds good follows (λ a. map kind kinds ++ marks a) (after kinds reader)
 unfolding after
-after_finds {reader = reader} {marks = marks} kinds exact one = record { finds = λ tokens a rest good follows h.
-    let parts = spells-split (map kind kinds) (marks a) tokens rest h in
-    rw (all_find kinds tokens parts.0 exact parts.1) (one.finds parts.0 a rest good follows parts.2) }
+after_finds {reader = reader} {marks = marks} kinds exact one = record {
+  finds = λ tokens a rest good follows h.
+      let parts = spells-split (map kind kinds) (marks a) tokens rest h in
+      rw (all_find kinds tokens parts.0 exact parts.1) (one.finds parts.0 a rest good follows parts.2);
+}
 
 pub before_finds : {A : Type 0} {reader : Reader A} {good : A → Type 0} {follows : List Token → Type 0} {marks : A → List Mark} (kinds : List TokenKind) → list_all is_exact kinds ≡ true
     → Finds good follows marks reader → ((middle rest : List Token) → Spells (map kind kinds) middle rest → follows middle) → Finds good Any (λ a. marks a ++ map kind kinds) (before reader kinds)
 unfolding before
-before_finds {reader = reader} {marks = marks} kinds exact one next = record { finds = λ tokens a rest good follows h.
-    let parts = spells-split (marks a) (map kind kinds) tokens rest h in
-    rw (one.finds tokens a parts.0 good (next parts.0 rest parts.2) parts.1, all_find kinds parts.0 rest exact parts.2) refl }
+before_finds {reader = reader} {marks = marks} kinds exact one next = record {
+  finds = λ tokens a rest good follows h.
+      let parts = spells-split (marks a) (map kind kinds) tokens rest h in
+      rw (one.finds tokens a parts.0 good (next parts.0 rest parts.2) parts.1, all_find kinds parts.0 rest exact parts.2) refl;
+}
 
 -- Items.
 
@@ -110,5 +116,7 @@ module _ {A : Type 0} {item : Reader A} {good : A → Type 0} {follows : List To
 
   pub all_of_finds : ((a : A) → 0 < length (marks a)) → Finds (Each good) (λ rest. (comes rest ≡ false) × follows rest) (all_marks marks) (all_of comes item)
   unfolding all_of
-  all_of_finds some = record { finds = λ tokens items rest each last h.
-      many_find items (length tokens) tokens rest (omega (arith, spells-length (all_marks marks items) tokens rest h, length-all_marks marks some items)) each last.0 last.1 h }
+  all_of_finds some = record {
+    finds = λ tokens items rest each last h.
+        many_find items (length tokens) tokens rest (omega (arith, spells-length (all_marks marks items) tokens rest h, length-all_marks marks some items)) each last.0 last.1 h;
+  }

@@ -1,4 +1,4 @@
-pub mod Tests
+pub mod Told
 pub mod Loads
 pub mod Wants
 pub mod Within

@@ -15,7 +15,7 @@ use Rattle.dsm_plain.specs.declared.value.Halt.{Halt}
 use Rattle.dsm_plain.specs.declared.value.Identity.{Identity}
 use Rattle.dsm_plain.specs.Limits.{term_operators, operators, is_shared, product_loads, sum_loads, is_small_sum, is_small_part}
 use Rattle.dsm_plain.specs.Values.{Outcome, ◌>>=◌, fits_64_bits, fitting, operand_value, times_value, product_value, plus_value, sum_value, part_text, parts_text}
-use Rattle.dsm_plain.proofs.Tests.{first_of_both, second_of_both, not_first, not_second, is_false_where_not}
+use Rattle.dsm_plain.proofs.Told.{first_of_both, second_of_both, not_first, not_second, is_false_where_not}
 
 -- an evaluation takes at most so many answers, and wants another only where it has taken fewer
 abbrev pub TakesAtMost : {A : Type 0} → ℕ → List ℤ → Outcome A → Type 0

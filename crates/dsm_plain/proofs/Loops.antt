@@ -64,7 +64,7 @@ module _ {A : Type 0} (comes : List Token → Bool) (item : Reader A) (shortens 
     one_more a rest come is =
         let bigger : many comes item (length tokens) tokens ≡ many comes item (suc (length tokens)) tokens = enough (length tokens) (suc (length tokens)) tokens (omega arith) (omega arith) in
         let smaller : many comes item (length tokens) rest ≡ many comes item (length rest) rest =
-            enough (length tokens) (length rest) rest (omega (arith, shortens tokens a rest is)) (omega arith) in
+        enough (length tokens) (length rest) rest (omega (arith, shortens tokens a rest is)) (omega arith) in
         bigger ∙ rw (come, some_both item (λ first more. first ∷ more) tokens (many comes item (length tokens)) a rest is, smaller) refl
 
     pub goes_on : (a : A) (rest : List Token) → comes tokens ≡ true → item tokens ≡ Some (a, rest) → with_front front (all_of comes item tokens) ≡ total

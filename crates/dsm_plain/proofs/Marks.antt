@@ -113,9 +113,11 @@ read_both {A} {B} {C} first second make tokens c rest e =
 
 pub both_sound : {A B C : Type 0} {first : Reader A} {second : Reader B} {first_marks : A → List Mark} {second_marks : B → List Mark} {marks : C → List Mark}
     → Sound first_marks first → Sound second_marks second → (make : A → B → C) → ((a : A) (b : B) → marks (make a b) ≡ first_marks a ++ second_marks b) → Sound marks (both first second make)
-both_sound {first = first} {second = second} {first_marks = first_marks} {second_marks = second_marks} {marks = marks} one other make is = record { reads = λ tokens c rest e.
-    let r : ReadBoth first second make tokens c rest = read_both first second make tokens c rest e in
-    rw (← r.made, is r.a r.b) (spells-append (first_marks r.a) (second_marks r.b) tokens r.middle rest (one.reads tokens r.a r.middle r.before) (other.reads r.middle r.b rest r.behind)) }
+both_sound {first = first} {second = second} {first_marks = first_marks} {second_marks = second_marks} {marks = marks} one other make is = record {
+  reads = λ tokens c rest e.
+      let r : ReadBoth first second make tokens c rest = read_both first second make tokens c rest e in
+      rw (← r.made, is r.a r.b) (spells-append (first_marks r.a) (second_marks r.b) tokens r.middle rest (one.reads tokens r.a r.middle r.before) (other.reads r.middle r.b rest r.behind));
+}
 
 -- what was read stands in for an equal
 pub carry : {A : Type 0} (marks : A → List Mark) (tokens : List Token) (a c : A) (left rest : List Token) → a ≡ c → left ≡ rest → Spells (marks a) tokens left → Spells (marks c) tokens rest
@@ -144,31 +146,40 @@ all_sound (k ∷ kinds) tokens rest e =
 
 pub after_sound : {A : Type 0} {reader : Reader A} {marks : A → List Mark} (kinds : List TokenKind) → Sound marks reader → Sound (λ a. map kind kinds ++ marks a) (after kinds reader)
 unfolding after
-after_sound {A} {reader = reader} {marks = marks} kinds h = record { reads = λ tokens a rest e.
-    let p = some_then (all_expected kinds tokens) reader (a, rest) e in
-    spells-append (map kind kinds) (marks a) tokens p.0 rest (all_sound kinds tokens p.0 p.1) (h.reads p.0 a rest p.2) }
+after_sound {A} {reader = reader} {marks = marks} kinds h = record {
+  reads = λ tokens a rest e.
+      let p = some_then (all_expected kinds tokens) reader (a, rest) e in
+      spells-append (map kind kinds) (marks a) tokens p.0 rest (all_sound kinds tokens p.0 p.1) (h.reads p.0 a rest p.2);
+}
 
 pub before_sound : {A : Type 0} {reader : Reader A} {marks : A → List Mark} (kinds : List TokenKind) → Sound marks reader → Sound (λ a. marks a ++ map kind kinds) (before reader kinds)
 unfolding before
-before_sound {A} {reader = reader} {marks = marks} kinds h = record { reads = λ tokens a rest e.
-    let p = some_then (reader tokens) (λ a. all_expected kinds a.1 >>= (λ left. Some (a.0, left))) (a, rest) e in
-    let q = some_then (all_expected kinds p.0.1) (λ left. Some (p.0.0, left)) (a, rest) p.2 in
-    let is_a = same_first (p.0.0, q.0) (a, rest) q.2 in
-    let is_rest = same_second (p.0.0, q.0) (a, rest) q.2 in
-    carry (λ (a : A). marks a ++ map kind kinds) tokens p.0.0 a q.0 rest is_a is_rest (spells-append (marks p.0.0) (map kind kinds) tokens p.0.1 q.0 (h.reads tokens p.0.0 p.0.1 p.1) (all_sound kinds p.0.1 q.0 q.1)) }
+before_sound {A} {reader = reader} {marks = marks} kinds h = record {
+  reads = λ tokens a rest e.
+      let p = some_then (reader tokens) (λ a. all_expected kinds a.1 >>= (λ left. Some (a.0, left))) (a, rest) e in
+      let q = some_then (all_expected kinds p.0.1) (λ left. Some (p.0.0, left)) (a, rest) p.2 in
+      let is_a = same_first (p.0.0, q.0) (a, rest) q.2 in
+      let is_rest = same_second (p.0.0, q.0) (a, rest) q.2 in
+      carry (λ (a : A). marks a ++ map kind kinds) tokens p.0.0 a q.0 rest is_a is_rest (spells-append (marks p.0.0) (map kind kinds) tokens p.0.1 q.0 (h.reads tokens p.0.0 p.0.1 p.1) (all_sound kinds p.0.1 q.0 q.1));
+}
 
 pub many_sound : {A : Type 0} {item : Reader A} {marks : A → List Mark} (comes : List Token → Bool) → Sound marks item → (n : ℕ) → Sound (all_marks marks) (many comes item n)
 unfolding many
-many_sound {A} {item = item} {marks = marks} comes h zero = record { reads = λ tokens items rest e.
-    elim (comes tokens) as (λ b. ◌≡◌ {A = Option (List A × List Token)} (cond b None (Some ([], tokens))) (Some (items, rest)) → Spells (all_marks marks items) tokens rest)
-    [ true ↦ λ e. cc | false ↦ λ e. none_read marks tokens items rest e ] e }
-many_sound {A} {item = item} {marks = marks} comes h (suc n) = record { reads = λ tokens items rest e.
-    elim (comes tokens) as (λ b. ◌≡◌ {A = Option (List A × List Token)} (cond b (both item (many comes item n) (λ first more. first ∷ more) tokens) (Some ([], tokens))) (Some (items, rest))
-        → Spells (all_marks marks items) tokens rest)
-    [ true ↦ λ e. let r = read_both item (many comes item n) (λ first more. first ∷ more) tokens items rest e in
-      carry (all_marks marks) tokens (r.a ∷ r.b) items rest rest r.made refl (spells-append (marks r.a) (all_marks marks r.b) tokens r.middle rest
-      (h.reads tokens r.a r.middle r.before) ((many_sound comes h n).reads r.middle r.b rest r.behind))
-    | false ↦ λ e. none_read marks tokens items rest e ] e }
+many_sound {A} {item = item} {marks = marks} comes h zero = record {
+  reads = λ tokens items rest e.
+      elim (comes tokens) as (λ b. ◌≡◌ {A = Option (List A × List Token)} (cond b None (Some ([], tokens))) (Some (items, rest)) → Spells (all_marks marks items) tokens rest)
+      [ true ↦ λ e. cc | false ↦ λ e. none_read marks tokens items rest e ] e;
+}
+many_sound {A} {item = item} {marks = marks} comes h (suc n) = record {
+  reads = λ tokens items rest e.
+      elim (comes tokens) as (λ b. ◌≡◌ {A = Option (List A × List Token)} (cond b (both item (many comes item n) (λ first more. first ∷ more) tokens) (Some ([], tokens))) (Some (items, rest))
+      → Spells (all_marks marks items) tokens rest) [
+        | true ↦ λ e. let r = read_both item (many comes item n) (λ first more. first ∷ more) tokens items rest e in
+            carry (all_marks marks) tokens (r.a ∷ r.b) items rest rest r.made refl (spells-append (marks r.a) (all_marks marks r.b) tokens r.middle rest
+            (h.reads tokens r.a r.middle r.before) ((many_sound comes h n).reads r.middle r.b rest r.behind))
+        | false ↦ λ e. none_read marks tokens items rest e
+      ] e;
+}
 
 pub all_of_sound : {A : Type 0} {item : Reader A} {marks : A → List Mark} (comes : List Token → Bool) → Sound marks item → Sound (all_marks marks) (all_of comes item)
 unfolding all_of

@@ -31,20 +31,23 @@ module _ (names : Option Names) (token : Token) (tokens : List Token) where
   -- me or n
   own_name : (text : List ℕ) (o : Operand) → token.kind ≡ TokenKind.Name text → operand_named None text token.line ≡ Some o → Spells (operand_marks (names_of names) o) (token ∷ tokens) tokens
   own_name text o is e = elim (text_tells text (codes "me")) [
-    inl p ↦ let made : Some Operand.Me ≡ Some o = rw p.0 at e in
-      carry (operand_marks (names_of names)) (token ∷ tokens) Operand.Me o tokens tokens (cc made) refl (record { is_kind = is ∙ ap TokenKind.Name p.1; is_line = tt }, refl)
+    | inl p ↦ let made : Some Operand.Me ≡ Some o = rw p.0 at e in
+        carry (operand_marks (names_of names)) (token ∷ tokens) Operand.Me o tokens tokens (cc made) refl (record { is_kind = is ∙ ap TokenKind.Name p.1; is_line = tt }, refl)
     | inr p ↦ elim (text_tells text (codes "n")) [
-      inl q ↦ let made : Some Operand.Procs ≡ Some o = rw (p.0, q.0) at e in
-        carry (operand_marks (names_of names)) (token ∷ tokens) Operand.Procs o tokens tokens (cc made) refl (record { is_kind = is ∙ ap TokenKind.Name q.1; is_line = tt }, refl)
-      | inr q ↦ let made : None ≡ Some o = rw (p.0, q.0) at e in cc made ] ]
+      | inl q ↦ let made : Some Operand.Procs ≡ Some o = rw (p.0, q.0) at e in
+          carry (operand_marks (names_of names)) (token ∷ tokens) Operand.Procs o tokens tokens (cc made) refl (record { is_kind = is ∙ ap TokenKind.Name q.1; is_line = tt }, refl)
+      | inr q ↦ let made : None ≡ Some o = rw (p.0, q.0) at e in cc made
+    ]
+  ]
 
 name_sound : (names : Option Names) (token : Token) (tokens : List Token) (text : List ℕ) (o : Operand) → token.kind ≡ TokenKind.Name text → operand_named names text token.line ≡ Some o
     → Spells (operand_marks (names_of names) o) (token ∷ tokens) tokens
 name_sound None token tokens text o is e = own_name None token tokens text o is e
 name_sound (Some names) token tokens text o is e = elim (text_tells names.cell text) [
-  inl p ↦ let made : Some (Operand.Shared token.line) ≡ Some o = rw p.0 at e in
-    carry (operand_marks names) (token ∷ tokens) (Operand.Shared token.line) o tokens tokens (cc made) refl (record { is_kind = is ∙ ap TokenKind.Name (sym p.1); is_line = refl }, refl)
-  | inr p ↦ own_name (Some names) token tokens text o is (rw p.0 at e) ]
+  | inl p ↦ let made : Some (Operand.Shared token.line) ≡ Some o = rw p.0 at e in
+      carry (operand_marks names) (token ∷ tokens) (Operand.Shared token.line) o tokens tokens (cc made) refl (record { is_kind = is ∙ ap TokenKind.Name (sym p.1); is_line = refl }, refl)
+  | inr p ↦ own_name (Some names) token tokens text o is (rw p.0 at e)
+]
 
 kind_sound : (names : Option Names) (token : Token) (tokens : List Token) (k : TokenKind) (o : Operand) → token.kind ≡ k → operand_of names k token.line ≡ Some o
     → Spells (operand_marks (names_of names) o) (token ∷ tokens) tokens
@@ -156,10 +159,12 @@ module _ (names : Names) where
 
   named_sound : Sound (statement_marks names) (read_named names)
   unfolding read_named
-  named_sound = record { reads = λ tokens statement rest e.
-      either (starts (TokenKind.Word Word.Acquire) tokens) _ _ _ (mapped_sound (statement_marks names) Statement.Acquire (lock_sound Word.Acquire) (λ line. refl) tokens statement rest)
-      (either (starts (TokenKind.Word Word.Release) tokens) _ _ _ (mapped_sound (statement_marks names) Statement.Release (lock_sound Word.Release) (λ line. refl) tokens statement rest)
-      (assign_sound.reads tokens statement rest)) e }
+  named_sound = record {
+    reads = λ tokens statement rest e.
+        either (starts (TokenKind.Word Word.Acquire) tokens) _ _ _ (mapped_sound (statement_marks names) Statement.Acquire (lock_sound Word.Acquire) (λ line. refl) tokens statement rest)
+        (either (starts (TokenKind.Word Word.Release) tokens) _ _ _ (mapped_sound (statement_marks names) Statement.Release (lock_sound Word.Release) (λ line. refl) tokens statement rest)
+        (assign_sound.reads tokens statement rest)) e;
+  }
 
 named_or_none : (names : Option Names) (tokens : List Token) (statement : Statement) (rest : List Token)
     → ◌≡◌ {A = Option (Statement × List Token)} (names >>= (λ names. read_named names tokens)) (Some (statement, rest)) → Spells (statement_marks (names_of names) statement) tokens rest
@@ -168,9 +173,11 @@ named_or_none (Some names) tokens statement rest e = (named_sound names).reads t
 
 statement_sound : (names : Option Names) → Sound (statement_marks (names_of names)) (read_statement names)
 unfolding read_statement
-statement_sound names = record { reads = λ tokens statement rest e.
-    either (starts (TokenKind.Word Word.Print) tokens) _ _ _ (mapped_sound (statement_marks (names_of names)) Statement.Print (print_sound names) (λ parts. refl) tokens statement rest)
-    (named_or_none names tokens statement rest) e }
+statement_sound names = record {
+  reads = λ tokens statement rest e.
+      either (starts (TokenKind.Word Word.Print) tokens) _ _ _ (mapped_sound (statement_marks (names_of names)) Statement.Print (print_sound names) (λ parts. refl) tokens statement rest)
+      (named_or_none names tokens statement rest) e;
+}
 
 some_marks : (names : Names) (statement : Statement) → 0 < length (statement_marks names statement)
 some_marks names (Statement.Acquire line) = omega arith

@@ -16,7 +16,7 @@ use Rattle.dsm_plain.specs.declared.state.SmallState.{SmallState}
 use Rattle.dsm_plain.specs.Limits.{is_small_statement, is_small_part}
 use Rattle.dsm_plain.specs.Values.{Outcome, sum_value, parts_text}
 use Rattle.dsm_plain.specs.Meaning.{the_lock, the_cell, want_of_assign, want_of_print, want_of_statement, small_want}
-use Rattle.dsm_plain.proofs.Tests.{first_of_both, second_of_both, list_all-at}
+use Rattle.dsm_plain.proofs.Told.{first_of_both, second_of_both, list_all-at}
 use Rattle.dsm_plain.proofs.Loads.{TakesAtMost, at_most, NeverLoads, small_sum_takes, few_parts_take, parts_never}
 
 -- a state whose statement names the lock or the cell
@@ -121,4 +121,3 @@ module _ (s : SmallState) (told : Option Want) (want : Want) (next : ForSome tol
   pub statement_told : IsSomeAnd told MayBeDone → ((cell : Cell) (line : ℕ) → want ≡ Want.Load cell line → ⊥) → (want ≡ Want.End → ⊥)
       → s.place < length s.program.statements
   statement_told may no_load no_end = by_want s want stands_told (rw is at may) no_load no_end
-

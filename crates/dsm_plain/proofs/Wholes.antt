@@ -10,7 +10,7 @@ use Rattle.dsm_plain.specs.declared.tree.Statement.{Statement}
 use Rattle.dsm_plain.specs.declared.names.Names.{Names}
 use Rattle.dsm_plain.specs.Spelling.{Spells, kind, sign, all_marks, statement_marks, declared_marks, items_marks, header_marks, return_marks, block_marks, program_marks, IsFree, AreNames, IsSpelled}
 use Rattle.dsm_plain.specs.Reading.{◌>>=◌, mapped, starts, all_expected, name_kind, any_name, is_free, are_names, bind_kinds, header_kinds, return_kinds, after, read_declared, read_items, read_names, read_statements, read_return, read_block, read_program}
-use Rattle.dsm_plain.proofs.Tests.{first_of_both, second_of_both, not_first, not_second, is_false_where_not}
+use Rattle.dsm_plain.proofs.Told.{first_of_both, second_of_both, not_first, not_second, is_false_where_not}
 use Rattle.dsm_plain.proofs.Marks.{Sound, same_first, same_second, some_then, cond_some, spells-append, all_sound, both_sound, after_sound, before_sound, carry}
 use Rattle.dsm_plain.proofs.Sounds.{names_of, either, statements_sound}
 
@@ -75,7 +75,7 @@ items_sound tokens names rest e =
     record {
       are_names = names_tell names (ap are_names (sym is) ∙ r.0);
       spelled = carry (λ (names : Names). items_marks names true) tokens p.0.0 names q.0 rest is (same_second (p.0.0, q.0) (names, rest) r.1)
-        (spells-append (declared_marks p.0.0) (map kind (bind_kinds p.0.0)) tokens p.0.1 q.0 (declared_sound.reads tokens p.0.0 p.0.1 p.1) (all_sound (bind_kinds p.0.0) p.0.1 q.0 q.1));
+          (spells-append (declared_marks p.0.0) (map kind (bind_kinds p.0.0)) tokens p.0.1 q.0 (declared_sound.reads tokens p.0.0 p.0.1 p.1) (all_sound (bind_kinds p.0.0) p.0.1 q.0 q.1));
     }
 
 record NamesRead (names : Option Names) (tokens rest : List Token) : Type 0 where
@@ -95,13 +95,14 @@ names_sound : (tokens : List Token) (names : Option Names) (rest : List Token) �
 unfolding read_names
 names_sound tokens names rest e =
     either (starts (TokenKind.Word Word.Shared) tokens) _ _ _ (some (read_items tokens) refl) none e where
-  none : ◌≡◌ {A = Option (Option Names × List Token)} (Some (None, tokens)) (Some (names, rest)) → NamesRead names tokens rest
-  none e = names_carry tokens None names tokens rest (same_first (None, tokens) (names, rest) e) (same_second (None, tokens) (names, rest) e) (no_items tokens)
-  some : (o : Option (Names × List Token)) → read_items tokens ≡ o → ◌≡◌ {A = Option (Option Names × List Token)} (mapped (λ names. Some names) o) (Some (names, rest)) → NamesRead names tokens rest
-  some None is e = cc
-  some (Some p) is e =
-      names_carry tokens (Some p.0) names p.1 rest (same_first (Some p.0, p.1) (names, rest) e) (same_second (Some p.0, p.1) (names, rest) e)
-      (some_items tokens p.0 p.1 (items_sound tokens p.0 p.1 is))
+      none : ◌≡◌ {A = Option (Option Names × List Token)} (Some (None, tokens)) (Some (names, rest)) → NamesRead names tokens rest
+      none e = names_carry tokens None names tokens rest (same_first (None, tokens) (names, rest) e) (same_second (None, tokens) (names, rest) e) (no_items tokens)
+
+      some : (o : Option (Names × List Token)) → read_items tokens ≡ o → ◌≡◌ {A = Option (Option Names × List Token)} (mapped (λ names. Some names) o) (Some (names, rest)) → NamesRead names tokens rest
+      some None is e = cc
+      some (Some p) is e =
+          names_carry tokens (Some p.0) names p.1 rest (same_first (Some p.0, p.1) (names, rest) e) (same_second (Some p.0, p.1) (names, rest) e)
+          (some_items tokens p.0 p.1 (items_sound tokens p.0 p.1 is))
 
 -- The block.
 
@@ -126,10 +127,12 @@ block_sound names tokens statements rest e =
     let r = some_then (all_expected (TokenKind.Sign Sign.BraceClose ∷ []) q.0) (λ end. Some (p.0.0, end)) (statements, rest) q.2 in
     let made : List Statement × List Token = (p.0.0, r.0) in
     let stated = (after_sound header_kinds (statements_sound names)).reads tokens p.0.0 p.0.1 p.1 in
-    let returned = return_sound p.0.1 q.0 q.1 in
-    (returned.0, carry (λ (found : List Statement). block_marks (names_of names) returned.0 found) tokens
-    p.0.0 statements r.0 rest (same_first made (statements, rest) r.2) (same_second made (statements, rest) r.2)
-    (in_order names tokens p.0.1 q.0 r.0 p.0.0 returned.0 stated returned.1 (all_sound (TokenKind.Sign Sign.BraceClose ∷ []) q.0 r.0 r.1)))
+    let returned = return_sound p.0.1 q.0 q.1 in (
+      returned.0,
+      carry (λ (found : List Statement). block_marks (names_of names) returned.0 found) tokens
+          p.0.0 statements r.0 rest (same_first made (statements, rest) r.2) (same_second made (statements, rest) r.2)
+          (in_order names tokens p.0.1 q.0 r.0 p.0.0 returned.0 stated returned.1 (all_sound (TokenKind.Sign Sign.BraceClose ∷ []) q.0 r.0 r.1)),
+    )
 
 some_same : (a c : Bool × List Statement) → Some a ≡ Some c → a ≡ c
 some_same a c e = cc
@@ -142,7 +145,7 @@ whole : (tokens middle rest : List Token) (names : Option Names) (returns : Bool
     → Spells (block_marks (names_of names) returns statements) middle rest → rest ≡ [] → (is_some names, statements) ≡ found → IsSpelled tokens found.0 found.1
 whole tokens middle rest names returns statements found named block ended is =
     let spelled : Spells (program_marks (names_of names) (is_some names) returns statements) tokens rest =
-        spells-append (items_marks (names_of names) (is_some names)) (block_marks (names_of names) returns statements) tokens middle rest named.spelled block in
+    spells-append (items_marks (names_of names) (is_some names)) (block_marks (names_of names) returns statements) tokens middle rest named.spelled block in
     rw (← is) (record { names = names_of names; are_names = named.are_names; returns = returns; spelled = rw ended at spelled })
 
 pub program_sound : (tokens : List Token) (found : Bool × List Statement) → read_program tokens ≡ Some found → IsSpelled tokens found.0 found.1

@@ -166,7 +166,7 @@ impl<'a> Cursor<'a> {
                     kind: TokenKind::Str(text),
                     ..
                 },
-                ..,
+                ..
             ] => Some(text),
             _ => None,
         }

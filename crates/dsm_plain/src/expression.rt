@@ -13,6 +13,7 @@ use sqlite_items::Items;
 use std::alloc::Global;
 
 const STAR: Expected<'static> = Expected::Sign(Sign::Star);
+
 const PLUS: Expected<'static> = Expected::Sign(Sign::Plus);
 
 /// The operand that a name stands for.

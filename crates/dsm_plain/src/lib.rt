@@ -12,6 +12,8 @@ mod room;
 mod setup;
 mod state;
 mod statement;
+#[cfg(test)]
+mod tests;
 mod thread;
 mod tree;
 mod value;

@@ -138,5 +138,7 @@ impl Statement {
 pub fn is_small(has_items: bool, statements: &[Statement]) -> bool
     ensures { result ≡ is_small has_items statements.now }
 {
-    statements.iter().all(|statement| statement.is_small(has_items))
+    statements
+        .iter()
+        .all(|statement| statement.is_small(has_items))
 }

@@ -15,10 +15,15 @@ use sqlite_items::Items;
 use std::alloc::Global;
 
 pub const PAREN_OPEN: Expected<'static> = Expected::Sign(Sign::ParenOpen);
+
 pub const PAREN_CLOSE: Expected<'static> = Expected::Sign(Sign::ParenClose);
+
 pub const BRACE_CLOSE: Expected<'static> = Expected::Sign(Sign::BraceClose);
+
 pub const SEMICOLON: Expected<'static> = Expected::Sign(Sign::Semicolon);
+
 pub const COMMA: Expected<'static> = Expected::Sign(Sign::Comma);
+
 pub const RETURN: Expected<'static> = Expected::Word(Word::Return);
 
 #[tactic(auto, unfolding(crate::specs::Reading::read_part))]
@@ -34,11 +39,7 @@ fn part(alloc: Global, names: Option<&Names>, tokens: &mut Cursor<'_>) -> Result
 }
 
 #[tactic(auto, unfolding(crate::specs::Reading::read_more_part, crate::specs::Reading::after))]
-fn more_part(
-    alloc: Global,
-    names: Option<&Names>,
-    tokens: &mut Cursor<'_>,
-) -> Result<Part, Refusal>
+fn more_part(alloc: Global, names: Option<&Names>, tokens: &mut Cursor<'_>) -> Result<Part, Refusal>
     ensures { Gives result tokens.new (read_more_part (option_copied names.entry) tokens.old) }
 {
     tokens.expect_all(&[COMMA])?;

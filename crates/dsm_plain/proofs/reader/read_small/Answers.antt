@@ -7,7 +7,7 @@ use Rattle.dsm_plain.proofs.reader.read_small.Goals as goal
 pub returns-then-not-is_small-clause-answers : goal.returns-then-not-is_small-clause-answers
 returns-then-not-is_small-clause-answers c =
     let large : is_small c.in-Ok.has_items c.in-Ok.statements ≡ false =
-        ap (λ statements. is_small c.in-Ok.has_items statements) (sym c.as_slice-in-Ok.ensures) ∙ sym c.is_small.ensures ∙ c.if-not-is_small.true in
+    ap (λ statements. is_small c.in-Ok.has_items statements) (sym c.as_slice-in-Ok.ensures) ∙ sym c.is_small.ensures ∙ c.if-not-is_small.true in
     (refl, λ program h. too_large c.args.tokens.now (c.in-Ok.has_items, c.in-Ok.statements) (rw c.as_slice.ensures at c.in-Ok.ensures) program h large)
 
 pub returns-else-not-is_small-clause-answers : goal.returns-else-not-is_small-clause-answers
