@@ -1,0 +1,12 @@
+pub mod Told
+pub mod Loads
+pub mod Wants
+pub mod Within
+pub mod Marks
+pub mod Loops
+pub mod Sounds
+pub mod Wholes
+pub mod Finds
+pub mod FindParts
+pub mod FindWholes
+pub mod Exact

@@ -1,0 +1,10 @@
+pub mod Limits
+pub mod Values
+pub mod Meaning
+pub mod Asking
+pub mod Setups
+pub mod Kinds
+pub mod Spelling
+pub mod Reading
+pub mod Reads
+pub mod Answers
