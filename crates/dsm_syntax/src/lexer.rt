@@ -14,7 +14,7 @@ use dsm_base::Text;
 use std::alloc::Global;
 
 /// The most bytes of a program.
-const MOST_TEXT: usize = 262_144;
+pub const MOST_TEXT: usize = 262_144;
 
 /// The most tokens of a program.
 const MOST_TOKENS: usize = 65_536;

@@ -12,7 +12,7 @@ mod word;
 
 pub use errors::{ProgErr, Which};
 pub use laws::{one_list_of_tokens, refused_for_good, tokens_in_place, tokens_or_refusal};
-pub use lexer::lex;
+pub use lexer::{MOST_TEXT, lex};
 pub use sign::Sign;
 pub use token::{Token, TokenKind, Tokens};
 pub use word::Word;

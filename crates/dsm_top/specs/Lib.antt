@@ -1,2 +1,5 @@
 pub mod Command
 pub mod Messages
+pub mod Accepted
+pub mod Refusals
+pub mod Ended

@@ -3,8 +3,10 @@
 
 mod command;
 mod host;
+mod lines;
 mod message;
 mod output;
+mod prepare;
 mod status;
 
 pub use host::{HostFiles, StdSink};
