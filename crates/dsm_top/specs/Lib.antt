@@ -3,3 +3,4 @@ pub mod Messages
 pub mod Accepted
 pub mod Refusals
 pub mod Ended
+pub mod Runs

@@ -7,6 +7,7 @@ mod lines;
 mod message;
 mod output;
 mod prepare;
+mod run;
 mod status;
 
 pub use host::{HostFiles, StdSink};

@@ -358,6 +358,7 @@ impl<M: TaskMaker> World<M> {
         ensures lines { IfOk result (λ lines. lines ≡ lines_of (records_of M.first M.Made.semantics self.old act)) }
         ensures whole { OnOk result (IsWhole M.Made.state M.first M.Made.semantics self.new) }
         ensures err { OnErr result (groups_of self.new ≡ groups_of self.old) }
+        ensures err_units { OnErr result (units_of self.new ≡ units_of self.old) }
         ensures setup { setup_of self.new ≡ setup_of self.old }
         ensures first { first_of M.first self.new ≡ first_of M.first self.old }
     {

@@ -1,0 +1,43 @@
+-- Worlds of small programs, and what is written of them.
+use Rattle.std.specs.Prelude.{◌≡◌, ◌⊎◌, ℕ, List, take, reverse, Option}
+use Rattle.dsm_base.specs.declared.act.Act.{Act}
+use Rattle.dsm_base.specs.declared.errors.ReadErr.{ReadErr}
+use Rattle.dsm_base.specs.Sink.{appended, TakesPart}
+use Rattle.dsm_trace.specs.Fits.{FitsUnits}
+use Rattle.dsm_plain.specs.declared.thread.SmallMaker.{SmallMaker}
+use Rattle.dsm_plain.specs.declared.thread.SmallThread.{SmallThread}
+use Rattle.dsm_plain.specs.declared.state.SmallState.{SmallState}
+use Rattle.dsm_plain.specs.Meaning.{small_first, small_semantics}
+use Rattle.dsm_world.specs.declared.world.World.{World}
+use Rattle.dsm_world.specs.World.{setup_of, first_of, groups_of, units_of, IsWhole}
+use Rattle.dsm_top.specs.Ended.{TakesFront}
+
+abbrev pub SmallWorld : Type 0
+SmallWorld = World SmallMaker SmallThread SmallState
+
+-- the state of a thread, and the first one that a maker gives it
+abbrev pub thread_state : SmallThread → SmallState
+thread_state thread = thread.state
+
+abbrev pub first_by : SmallMaker → ℕ → ℕ → SmallState
+first_by maker procs me = small_first maker.program procs me
+
+abbrev pub IsWholeWorld : SmallWorld → Type 0
+IsWholeWorld world = IsWhole thread_state first_by small_semantics world
+
+abbrev pub first_in : SmallWorld → ℕ → SmallState
+first_in world = first_of first_by world
+
+-- the trace fits the first units of a schedule, as many as were applied
+abbrev pub FitsFirst : SmallWorld → List Act → Type 0
+FitsFirst world schedule = FitsUnits (setup_of world) (first_in world) small_semantics (reverse (take (units_of world) schedule)) (groups_of world)
+
+-- another state of the same world
+pub record IsSameRun (old new : SmallWorld) : Type 0 where
+  pub setup : setup_of new ≡ setup_of old
+  pub first : first_in new ≡ first_in old
+
+-- where the sink failed it has taken a part of the bytes; where memory ran out a front of them
+abbrev pub WroteCut : Option (List ℕ) → Option (List ℕ) → List ℕ → ReadErr → Type 0
+WroteCut before after bytes ReadErr.Failed = TakesPart before after bytes
+WroteCut before after bytes ReadErr.Memory = TakesFront before after bytes
