@@ -81,6 +81,12 @@ Ran program schedule left Status.WriteFault = RanCut program schedule left
 Ran program schedule left Status.Memory = RanShort program schedule left
 Ran program schedule left _ = ⊥
 
+-- the status of a run that went through its schedule
+abbrev pub status_of : Finished → Status
+status_of Finished.Done = Status.Done
+status_of Finished.Stopped = Status.Stopped
+status_of Finished.Unfinished = Status.Unfinished
+
 -- No run.
 
 -- a refusal, with its message written whole

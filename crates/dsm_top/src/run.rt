@@ -1,18 +1,26 @@
 //! The run of a program by a schedule.
 
-ghost use Rattle.std.specs.Prelude.{◌≡◌, ◌≤◌, [], length, OnOk, IfErr};
+ghost use Rattle.std.specs.Prelude.{◌≡◌, ◌≤◌, [], length, reverse, IfOk, OnOk, IfErr};
 ghost use Rattle.std.specs.List.{AllByRecursion};
 ghost use Rattle.dsm_base.specs.Causes.{HasCause};
 ghost use Rattle.dsm_base.specs.Sink.{appended};
 ghost use Rattle.dsm_trace.specs.Fits.{IsWithin};
 ghost use Rattle.dsm_world.specs.World.{setup_of, groups_of, units_of};
-ghost use Rattle.dsm_top.specs.Ended.{lines_of_trace};
-ghost use Rattle.dsm_top.specs.Runs.{IsWholeWorld, FitsFirst, IsSameRun, WroteCut};
+ghost use Rattle.dsm_plain.specs.Meaning.{small_first};
+ghost use Rattle.dsm_plain.specs.Setups.{small_setup};
+ghost use Rattle.dsm_top.specs.Ended.{lines_of_trace, status_of, Ran};
+ghost use Rattle.dsm_top.specs.Runs.{IsWholeWorld, first_in, FitsFirst, IsSameRun, WroteCut};
 
 use crate::lines::put_lines;
-use dsm_base::{Act, ReadErr, Sink};
-use dsm_plain::SmallMaker;
-use dsm_world::World;
+use crate::prepare::Prepared;
+use crate::status::{Report, Status};
+use dsm_base::{Act, MemFault, ReadErr, Sink};
+use dsm_laws_locks::one_memory;
+use dsm_plain::{SharedProgram, SmallMaker, SmallProgram};
+use dsm_trace::Trace;
+use dsm_world::{Finished, World};
+use std::alloc::Global;
+use std::rc::Rc;
 
 /// Applies units to a world that has had none, each with its lines put before the next. After an error
 /// a part of the lines is put, or for want of memory a front of them.
@@ -39,4 +47,56 @@ pub(crate) fn apply_units<K: Sink>(
         put_lines(out, &lines)?;
     }
     Ok(())
+}
+
+/// The world of a program before its first unit.
+fn start(alloc: Global, program: SmallProgram, procs: u8) -> Result<World<SmallMaker>, MemFault>
+    requires { procs ≡ 2 }
+    ensures whole { IfOk result IsWholeWorld }
+    ensures no_units { IfOk result (λ world. units_of world ≡ 0) }
+    ensures no_trace { IfOk result (λ world. groups_of world ≡ []) }
+    ensures setup { IfOk result (λ world. setup_of world ≡ small_setup program 2) }
+    ensures first { IfOk result (λ world. first_in world ≡ small_first program 2) }
+{
+    let setup = Rc::new(alloc, program.setup(alloc, procs)?)?;
+    let program = SharedProgram::new(alloc, program)?;
+    World::new(alloc, setup, SmallMaker { program })
+}
+
+/// The status of a run that went through its schedule.
+fn status_of(finished: Finished) -> Status
+    ensures { result ≡ status_of finished }
+{
+    match finished {
+        Finished::Done => Status::Done,
+        Finished::Stopped => Status::Stopped,
+        Finished::Unfinished => Status::Unfinished,
+    }
+}
+
+/// Runs a program by a schedule.
+pub(crate) fn run<K: Sink>(alloc: Global, prepared: Prepared, out: &mut K) -> Report
+    requires procs { prepared.schedule.procs ≡ 2 }
+    requires within { AllByRecursion (IsWithin (small_setup prepared.program 2)) prepared.schedule.units }
+    ensures { Ran prepared.program prepared.schedule.units record { before = K.sink_holds out.old; after = K.sink_holds out.new; faults_before = K.sink_faults out.old; faults_after = K.sink_faults out.new; trace = reverse result.trace; units = result.units } result.status }
+{
+    one_memory::<SmallMaker>();
+    let Ok(mut world) = start(alloc, prepared.program, prepared.schedule.procs) else {
+        return Report {
+            status: Status::Memory,
+            trace: Trace::new(alloc),
+            units: 0,
+        };
+    };
+    let status = match apply_units(&mut world, prepared.schedule.units.as_slice(), out) {
+        Ok(()) => status_of(world.finished()),
+        Err(ReadErr::Failed) => Status::WriteFault,
+        Err(ReadErr::Memory) => Status::Memory,
+    };
+    let units = world.units();
+    Report {
+        status,
+        trace: world.into_trace(),
+        units,
+    }
 }

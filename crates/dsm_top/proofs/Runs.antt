@@ -1,0 +1,100 @@
+-- What a run leaves.
+use Rattle.std.specs.Prelude.{◌≡◌, ◌≤◌, ◌+◌, ℕ, Bool, true, false, if◌then◌else◌, List, [], ◌∷◌, length, take, reverse, Option, Result, IfOk}
+use Rattle.std.specs.List.{AllByRecursion}
+use Rattle.std.proofs.Common.{refl, sym, ap, ◌∙◌, arith, subst}
+use Rattle.dsm_base.specs.Causes.{Rose}
+use Rattle.dsm_base.specs.Sink.{appended, TakesPart}
+use Rattle.dsm_base.specs.declared.act.Act.{Act}
+use Rattle.dsm_base.specs.declared.errors.MemFault.{MemFault}
+use Rattle.dsm_base.specs.declared.setup.Piece.{Piece}
+use Rattle.dsm_base.specs.declared.setup.Setup.{Setup}
+use Rattle.dsm_trace.specs.declared.trace.Group.{Group}
+use Rattle.dsm_trace.specs.Fits.{IsWithin, FitsUnits}
+use Rattle.dsm_trace.specs.OneMemory.{is_any_lock, BindsLocksOnly, IsOneMemory}
+use Rattle.dsm_laws_locks.specs.Within.{BindsWithin}
+use Rattle.dsm_plain.specs.declared.thread.SmallMaker.{SmallMaker}
+use Rattle.dsm_plain.specs.declared.tree.SmallProgram.{SmallProgram}
+use Rattle.dsm_plain.specs.Meaning.{small_first, small_semantics}
+use Rattle.dsm_plain.specs.Setups.{the_piece, small_setup}
+use Rattle.dsm_world.specs.declared.world.Finished.{Finished}
+use Rattle.dsm_world.specs.Finished.{finished_by}
+use Rattle.dsm_world.specs.World.{setup_of, groups_of, units_of}
+use Rattle.dsm_top.specs.declared.status.Status.{Status}
+use Rattle.dsm_top.specs.Ended.{Left, TakesFront, IsRun, endings_in, lines_of_trace, RanWhole, Ran, status_of}
+use Rattle.dsm_top.specs.Runs.{SmallWorld, first_by, first_in, FitsFirst}
+use Rattle.dsm_top.proofs.Pieces.{appended-nil}
+use Rattle.dsm_top.proofs.Units.{all_front}
+
+-- the law of locks, for threads of small programs
+abbrev pub Law : Type 0
+Law = (maker : SmallMaker) (setup : Setup) (units : List Act) (trace : List Group) → BindsLocksOnly setup → BindsWithin setup → AllByRecursion (IsWithin setup) units →
+    FitsUnits setup (first_by maker setup.procs) small_semantics units trace → IsOneMemory setup (first_by maker setup.procs) small_semantics trace
+
+locks_only : (has_items : Bool) → AllByRecursion (λ piece. is_any_lock piece.object ≡ true) (if has_items then the_piece ∷ [] else [])
+locks_only true = (refl, tt)
+locks_only false = tt
+
+pieces_within : (has_items : Bool) → AllByRecursion (λ piece. piece.first.0 + piece.count ≤ (if has_items then 1 else 0)) (if has_items then the_piece ∷ [] else [])
+pieces_within true = (omega (arith), tt)
+pieces_within false = tt
+
+module _ (program : SmallProgram) (schedule : List Act) (law : Law) (all_within : AllByRecursion (IsWithin (small_setup program 2)) schedule) where
+  -- a front of the schedule, as the law has it
+  pub is_run : (units : ℕ) (trace : List Group) → units ≤ length schedule → FitsUnits (small_setup program 2) (small_first program 2) small_semantics (reverse (take units schedule)) trace → IsRun program schedule units trace
+  is_run units trace within fits = record {
+    within = within;
+    fits = fits;
+    one_memory = law record { program = program } (small_setup program 2) (reverse (take units schedule)) trace (locks_only program.has_items) (pieces_within program.has_items)
+      (all_front (IsWithin (small_setup program 2)) schedule units all_within) fits;
+  }
+
+  module _ (world : SmallWorld) (left : Left) (setup : setup_of world ≡ small_setup program 2) (first : first_in world ≡ small_first program 2)
+      (within : units_of world ≤ length schedule) (fits : FitsFirst world schedule) (trace : left.trace ≡ groups_of world) (units : left.units ≡ units_of world) where
+    run : IsRun program schedule left.units left.trace
+    run =
+        let at_setup = subst (λ s. FitsUnits s (first_in world) small_semantics (reverse (take (units_of world) schedule)) (groups_of world)) setup fits in
+        let at_first = subst (λ f. FitsUnits (small_setup program 2) f small_semantics (reverse (take (units_of world) schedule)) (groups_of world)) first at_setup in
+        let at_units = subst (λ n. FitsUnits (small_setup program 2) (small_first program 2) small_semantics (reverse (take n schedule)) (groups_of world)) (sym units) at_first in
+        let at_trace = subst (λ t. FitsUnits (small_setup program 2) (small_first program 2) small_semantics (reverse (take left.units schedule)) t) (sym trace) at_units in
+        is_run left.units left.trace (omega (arith, within, units)) at_trace
+
+    by_status : (finished : Finished) → RanWhole program schedule left finished → Ran program schedule left (status_of finished)
+    by_status Finished.Done ran = ran
+    by_status Finished.Stopped ran = ran
+    by_status Finished.Unfinished ran = ran
+
+    pub ran_whole : (finished : Finished) → finished ≡ finished_by (setup_of world).procs (endings_in (groups_of world)) → units_of world ≡ length schedule →
+        left.after ≡ appended left.before (lines_of_trace (groups_of world)) → Ran program schedule left (status_of finished)
+    ran_whole finished is all wrote = by_status finished record {
+      run = run;
+      all = units ∙ all;
+      stands = ap (λ t. finished_by 2 (endings_in t)) trace ∙ (ap (λ s. finished_by s.procs (endings_in (groups_of world))) (sym setup) ∙ sym is);
+      wrote = wrote ∙ ap (λ t. appended left.before (lines_of_trace t)) (sym trace);
+    }
+
+    pub ran_cut : TakesPart left.before left.after (lines_of_trace (groups_of world)) → Rose left.faults_before left.faults_after → Ran program schedule left Status.WriteFault
+    ran_cut part rose = record {
+      run = run;
+      wrote = subst (λ t. TakesPart left.before left.after (lines_of_trace t)) (sym trace) part;
+      rose = rose;
+    }
+
+    pub ran_short : TakesFront left.before left.after (lines_of_trace (groups_of world)) → Ran program schedule left Status.Memory
+    ran_short front = record {
+      run = run;
+      wrote = subst (λ t. TakesFront left.before left.after (lines_of_trace t)) (sym trace) front;
+    }
+
+  -- nothing was applied
+  pub ran_none : (before : Option (List ℕ)) (faults_before faults_after : ℕ) →
+      Ran program schedule record { before = before; after = before; faults_before = faults_before; faults_after = faults_after; trace = []; units = 0 } Status.Memory
+  ran_none before faults_before faults_after = record {
+    run = is_run 0 [] (omega (arith)) refl;
+    wrote = record { count = 0; taken = sym (appended-nil before) };
+  }
+
+-- the first states of a program's threads
+pub first_states : (result : Result SmallWorld MemFault) (given program : SmallProgram) (procs : ℕ) → given ≡ program → procs ≡ 2 →
+    IfOk result (λ world. first_in world ≡ small_first given procs) → IfOk result (λ world. first_in world ≡ small_first program 2)
+first_states result given program procs same two first =
+    subst (λ n. IfOk result (λ world. first_in world ≡ small_first program n)) two (subst (λ one. IfOk result (λ world. first_in world ≡ small_first one procs)) same first)
