@@ -9,6 +9,8 @@ mod output;
 mod prepare;
 mod run;
 mod status;
+mod tool;
 
 pub use host::{HostFiles, StdSink};
 pub use status::{Report, Status};
+pub use tool::run_tool;
