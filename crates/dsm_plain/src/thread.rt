@@ -44,7 +44,7 @@ impl Task for SmallThread {
 
     fn done(&mut self, answer: i64) {
         let Some(want) = self.told.take() else {
-            return;
+            unreachable!();
         };
         match want {
             Want::Load(_, _) => self.state.answers.push(answer),
