@@ -7,11 +7,11 @@ use Rattle.dsm_plain.specs.declared.tree.Statement.{Statement}
 use Rattle.dsm_plain.specs.declared.tree.SmallProgram.{SmallProgram}
 use Rattle.dsm_plain.specs.Limits.{is_small}
 use Rattle.dsm_plain.specs.Reading.{read_program}
-use Rattle.dsm_plain.specs.Answers.{IsTextOf}
+use Rattle.dsm_plain.specs.Spelling.{IsSpelled}
 use Rattle.dsm_plain.proofs.FindWholes.{program_finds}
 
 -- where nothing is read no program is spelled
-pub none_spelled : (tokens : List Token) → read_program tokens ≡ None → (program : SmallProgram) → IsTextOf program tokens → ⊥
+pub none_spelled : (tokens : List Token) → read_program tokens ≡ None → (program : SmallProgram) → IsSpelled tokens program → ⊥
 none_spelled tokens none program h =
     let found : read_program tokens ≡ Some (program.has_items, program.statements) = program_finds tokens program.has_items program.statements program.small h in cc (none, found)
 
@@ -25,7 +25,7 @@ same_program program found e =
 same_pair : (a c : Bool × List Statement) → Some a ≡ Some c → a ≡ c
 same_pair a c e = cc
 
-module _ (tokens : List Token) (found : Bool × List Statement) (read : read_program tokens ≡ Some found) (program : SmallProgram) (h : IsTextOf program tokens) where
+module _ (tokens : List Token) (found : Bool × List Statement) (read : read_program tokens ≡ Some found) (program : SmallProgram) (h : IsSpelled tokens program) where
   pub is_found : (program.has_items, program.statements) ≡ found
   is_found = same_pair (program.has_items, program.statements) found (sym (program_finds tokens program.has_items program.statements program.small h) ∙ read)
 

@@ -7,7 +7,7 @@ use Rattle.dsm_syntax.specs.declared.token.TokenKind.{TokenKind}
 use Rattle.dsm_plain.specs.declared.tree.Statement.{Statement}
 use Rattle.dsm_plain.specs.declared.names.Names.{Names}
 use Rattle.dsm_plain.specs.Limits.{is_small, is_small_statement}
-use Rattle.dsm_plain.specs.Spelling.{Spells, kind, word, sign, all_marks, statement_marks, declared_marks, items_marks, header_marks, return_marks, block_marks, IsFree, AreNames, IsSpelled}
+use Rattle.dsm_plain.specs.Spelling.{Spells, kind, word, sign, all_marks, statement_marks, declared_marks, items_marks, header_marks, return_marks, block_marks, IsFree, AreNames, AreSpelled}
 use Rattle.dsm_plain.specs.Reading.{starts, any_name, is_free, are_names, bind_kinds, header_kinds, return_kinds, after, read_declared, read_items, read_names, read_statements, statement_comes, read_return, read_block, read_program}
 use Rattle.dsm_plain.proofs.Marks.{spells-split, spells-append}
 use Rattle.dsm_plain.proofs.Finds.{Finds, Any, starts_mark, both_find, after_finds, before_finds, all_find}
@@ -90,7 +90,7 @@ is_some_given true names = refl
 is_some_given false names = refl
 
 -- what the tokens spell is what is read
-pub program_finds : (tokens : List Token) (has_items : Bool) (statements : List Statement) → is_small has_items statements ≡ true → IsSpelled tokens has_items statements
+pub program_finds : (tokens : List Token) (has_items : Bool) (statements : List Statement) → is_small has_items statements ≡ true → AreSpelled tokens has_items statements
     → read_program tokens ≡ Some (has_items, statements)
 unfolding read_program
 program_finds tokens has_items statements small h =

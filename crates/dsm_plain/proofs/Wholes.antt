@@ -8,7 +8,7 @@ use Rattle.dsm_syntax.specs.declared.token.Token.{Token}
 use Rattle.dsm_syntax.specs.declared.token.TokenKind.{TokenKind}
 use Rattle.dsm_plain.specs.declared.tree.Statement.{Statement}
 use Rattle.dsm_plain.specs.declared.names.Names.{Names}
-use Rattle.dsm_plain.specs.Spelling.{Spells, kind, sign, all_marks, statement_marks, declared_marks, items_marks, header_marks, return_marks, block_marks, program_marks, IsFree, AreNames, IsSpelled}
+use Rattle.dsm_plain.specs.Spelling.{Spells, kind, sign, all_marks, statement_marks, declared_marks, items_marks, header_marks, return_marks, block_marks, program_marks, IsFree, AreNames, AreSpelled}
 use Rattle.dsm_plain.specs.Reading.{◌>>=◌, mapped, starts, all_expected, name_kind, any_name, is_free, are_names, bind_kinds, header_kinds, return_kinds, after, read_declared, read_items, read_names, read_statements, read_return, read_block, read_program}
 use Rattle.dsm_plain.proofs.Told.{first_of_both, second_of_both, not_first, not_second, is_false_where_not}
 use Rattle.dsm_plain.proofs.Marks.{Sound, same_first, same_second, some_then, cond_some, spells-append, all_sound, both_sound, after_sound, before_sound, carry}
@@ -142,13 +142,13 @@ none_left [] e = refl
 none_left (token ∷ tokens) e = absurd (omega (arith, eqb-true (length (token ∷ tokens)) 0 e))
 
 whole : (tokens middle rest : List Token) (names : Option Names) (returns : Bool) (statements : List Statement) (found : Bool × List Statement) → NamesRead names tokens middle
-    → Spells (block_marks (names_of names) returns statements) middle rest → rest ≡ [] → (is_some names, statements) ≡ found → IsSpelled tokens found.0 found.1
+    → Spells (block_marks (names_of names) returns statements) middle rest → rest ≡ [] → (is_some names, statements) ≡ found → AreSpelled tokens found.0 found.1
 whole tokens middle rest names returns statements found named block ended is =
     let spelled : Spells (program_marks (names_of names) (is_some names) returns statements) tokens rest =
     spells-append (items_marks (names_of names) (is_some names)) (block_marks (names_of names) returns statements) tokens middle rest named.spelled block in
     rw (← is) (record { names = names_of names; are_names = named.are_names; returns = returns; spelled = rw ended at spelled })
 
-pub program_sound : (tokens : List Token) (found : Bool × List Statement) → read_program tokens ≡ Some found → IsSpelled tokens found.0 found.1
+pub program_sound : (tokens : List Token) (found : Bool × List Statement) → read_program tokens ≡ Some found → AreSpelled tokens found.0 found.1
 unfolding read_program
 program_sound tokens found e =
     let p = some_then (read_names tokens) (λ names. read_block names.0 names.1 >>= (λ statements. cond (nat_eq (length statements.1) 0) (Some (is_some names.0, statements.0)) None)) found e in

@@ -7,4 +7,4 @@ pub mod Kinds
 pub mod Spelling
 pub mod Reading
 pub mod Reads
-pub mod Answers
+pub mod Reader

@@ -11,6 +11,7 @@ use Rattle.dsm_plain.specs.declared.tree.Term.{Term}
 use Rattle.dsm_plain.specs.declared.tree.Sum.{Sum}
 use Rattle.dsm_plain.specs.declared.tree.Part.{Part}
 use Rattle.dsm_plain.specs.declared.tree.Statement.{Statement}
+use Rattle.dsm_plain.specs.declared.tree.SmallProgram.{SmallProgram}
 use Rattle.dsm_plain.specs.declared.names.Names.{Names}
 
 -- Marks.
@@ -144,8 +145,12 @@ pub record AreNames (names : Names) : Type 0 where
   pub differ : names.cell ≢ names.lock
 
 -- the tokens are those of a program with these statements, for some names, with or without the return
-pub record IsSpelled (tokens : List Token) (has_items : Bool) (statements : List Statement) : Type 0 where
+pub record AreSpelled (tokens : List Token) (has_items : Bool) (statements : List Statement) : Type 0 where
   pub names : Names
   pub are_names : AreNames names
   pub returns : Bool
   pub spelled : Spells (program_marks names has_items returns statements) tokens []
+
+-- the tokens are those of the program
+abbrev pub IsSpelled : List Token → SmallProgram → Type 0
+IsSpelled tokens program = AreSpelled tokens program.has_items program.statements

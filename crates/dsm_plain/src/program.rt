@@ -9,7 +9,7 @@ use std::marker::Model;
 use std::rc::Rc;
 
 /// A program with several owners, which contracts see as the program.
-#[derive(Drop)]
+#[derive(Debug, Drop)]
 pub struct SharedProgram {
     program: Rc<SmallProgram>,
 }
@@ -23,6 +23,7 @@ impl Model for SharedProgram {
 }
 
 impl SharedProgram {
+    /// The first owner of the program.
     pub fn new(alloc: Global, program: SmallProgram) -> Result<SharedProgram, MemFault>
         ensures { IfOk result (λ shared. shared ≡ program) }
     {
@@ -31,6 +32,7 @@ impl SharedProgram {
         })
     }
 
+    /// The program.
     pub fn get(&self) -> &SmallProgram
         ensures { result.now ≡ self.now }
     {

@@ -4,7 +4,8 @@ ghost use Rattle.std.specs.Prelude.{◌≡◌, IfOk};
 ghost use Rattle.std.specs.Option.{option_copied};
 ghost use Rattle.dsm_plain.specs.Reading.{all_expected, bind_kinds, is_free, read_declared, read_items, read_names, read_return, read_block, read_program};
 ghost use Rattle.dsm_plain.specs.Reads.{Gives, GivesRest, GivesAll};
-ghost use Rattle.dsm_plain.specs.Answers.{Answers, IsTextOf};
+ghost use Rattle.dsm_plain.specs.Spelling.{IsSpelled};
+ghost use Rattle.dsm_plain.specs.Reader.{IsAnswerTo};
 ghost use Rattle.dsm_plain.specs.declared.tree.SmallProgram.{SmallProgram};
 
 use crate::cursor::{Cursor, Expected, Refusal};
@@ -155,8 +156,8 @@ fn program(alloc: Global, tokens: &[Token]) -> Result<(bool, Statements), Refusa
 /// Reads a small program. `NotBuilt` exactly where the tokens aren't those of one; `Memory` for
 /// want of memory.
 pub fn read_small(alloc: Global, tokens: &Tokens) -> Result<SmallProgram, ProgErr>
-    ensures answers { Answers tokens.now result }
-    ensures only { (program : SmallProgram) → IsTextOf program tokens.now → IfOk result (λ found. found ≡ program) }
+    ensures answers { IsAnswerTo tokens.now result }
+    ensures only { (program : SmallProgram) → IsSpelled tokens.now program → IfOk result (λ found. found ≡ program) }
 {
     match program(alloc, tokens.as_slice()) {
         Ok((has_items, statements)) => {

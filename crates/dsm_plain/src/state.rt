@@ -16,7 +16,7 @@ pub const THE_LOCK: Lock = Lock(0);
 pub const THE_CELL: Cell = Cell(0);
 
 /// What a thread has to know to go on.
-#[derive(Drop)]
+#[derive(Debug, Drop)]
 pub struct SmallState {
     pub program: SharedProgram,
     pub who: Identity,

@@ -14,7 +14,7 @@ use dsm_base::{Fault, MemFault, Proc, Task, TaskMaker, Want};
 use std::alloc::Global;
 
 /// A thread of a small program.
-#[derive(Drop)]
+#[derive(Debug, Drop)]
 pub struct SmallThread {
     state: SmallState,
     /// The text of the line that `want` told.
@@ -44,7 +44,7 @@ impl Task for SmallThread {
 
     fn done(&mut self, answer: i64) {
         let Some(want) = self.told.take() else {
-            return;
+            unreachable!();
         };
         match want {
             Want::Load(_, _) => self.state.answers.push(answer),
@@ -65,12 +65,13 @@ impl Task for SmallThread {
 }
 
 /// Makes the threads of a small program.
-#[derive(Drop)]
+#[derive(Debug, Drop)]
 pub struct SmallMaker {
     pub program: SharedProgram,
 }
 
 impl SmallMaker {
+    /// The maker of the program's threads.
     pub fn new(alloc: Global, program: SmallProgram) -> Result<SmallMaker, MemFault>
         ensures { IfOk result (λ maker. maker.program ≡ program) }
     {
