@@ -1,7 +1,6 @@
 -- The cells of a lock, one cell on.
 use Rattle.std.proofs.Common.{◌≡◌, ℕ, ◌+◌, Bool, true, false, List, [], ◌∷◌, ◌++◌, filter, refl, sym, ap, ◌∙◌, arith, if◌then◌else◌, ◌<◌, length, get_or, subst}
 use Rattle.std.specs.List.{All, range_with_len}
-use Rattle.std.proofs.lemmas.List.{get_or_read}
 use Rattle.std.proofs.lemmas.List.{map-id, map-append}
 use Rattle.std.proofs.lemmas.List.FromFn.{map-range_with_len_more}
 use Rattle.std.proofs.lemmas.List.Elements.{filter-append, All-nil, All-cons, All-head, All-tail}
@@ -36,8 +35,7 @@ cells_below count (cell ∷ cells) all =
     All-cons (λ (one : Cell). one.0 < count) cell cells (All-head (λ n. n < count) cell.0 (numbers_of cells) all) (cells_below count cells (All-tail (λ n. n < count) cell.0 (numbers_of cells) all))
 
 -- the listed cells of a lock are cells of the setup
-pub listed_below : (setup : Setup) (lists : List (List Cell)) (lock : ℕ) (cells : List Cell) → HasCells setup lists → lock < setup.locks → cells ≡ get_or lists lock cells → All (λ cell. cell.0 < setup.cells) cells
+pub listed_below : (setup : Setup) (lists : List (List Cell)) (lock : ℕ) (cells : List Cell) → HasCells setup lists → lock < setup.locks → cells ≡ get_or lists lock [] → All (λ cell. cell.0 < setup.cells) cells
 listed_below setup lists lock cells has within read =
-    let place : lock < length lists = omega (arith, has.count) in
     cells_below setup.cells cells
-    (subst (All (λ n. n < setup.cells)) (sym (ap numbers_of (get_or_read lists lock cells place read []) ∙ has.listed lock within)) (cells_of_below setup lock))
+    (subst (All (λ n. n < setup.cells)) (sym (ap numbers_of read ∙ has.listed lock within)) (cells_of_below setup lock))

@@ -53,7 +53,7 @@ pub record IsShaped {T S : Type 0} (node : Node T S) : Type 0 where
   pub home_setup : node.home.setup.value ≡ node.setup.value
   pub home_me : node.home.me ≡ node.me
   pub pieces : HasPieces node.setup.value node.pieces
-  pub cells : HasCells node.setup.value node.cells.items
+  pub cells : HasCells node.setup.value node.cells
 
 -- besides, all that is named is of the setup
 pub record IsWhole {T S : Type 0} (state : T → S) (threads : Semantics S) (node : Node T S) : Type 0 where
@@ -87,10 +87,6 @@ stepped_by setup threads me s (Some deed) =
 abbrev pub processor_stepped : {S : Type 0} → Setup → Semantics S → ℕ → Processor S → Option Deed → Processor S
 processor_stepped setup threads me s None = s
 processor_stepped setup threads me s (Some deed) = (turned setup threads me s deed).processor
-
--- someone asks the home for a lock
-abbrev pub asked_effect : {S : Type 0} → ℕ → Processor S → Lock → Waiting → Effect S
-asked_effect me s lock waiting = granted me s lock (asked (s.locks lock.0) waiting) (granted_by_ask (s.locks lock.0) waiting)
 
 -- the label of the next turn of a thread that wants this, where it can make one
 abbrev pub label_at : {T S : Type 0} → (T → S) → Semantics S → Node T S → Want → Option Label

@@ -6,7 +6,7 @@ ghost use Rattle.dsm_base.specs.declared.setup.Setup.{Setup};
 ghost use Rattle.dsm_trace.specs.Locks.{is_of_lock};
 ghost use Rattle.dsm_node.specs.Layout.{HasPieces, HasCells, one_if};
 
-use dsm_base::{Cell, MemFault, Object, Piece, Setup};
+use dsm_base::{Cell, Lock, MemFault, Object, Piece, Setup};
 use sqlite_items::Items;
 use std::alloc::Global;
 
@@ -15,6 +15,9 @@ pub type Pieces = Items<Option<Piece>>;
 
 /// The cells of a lock, rising.
 pub type Cells = Items<Cell>;
+
+/// The cells of each lock.
+pub type LockCells = Items<Cells>;
 
 /// Notes the piece of each of its cells.
 fn note_piece(pieces: &mut Pieces, piece: Piece)
@@ -67,13 +70,21 @@ fn no_cells(alloc: Global, count: usize) -> Result<Vec<Cells>, MemFault>
 }
 
 /// The cells of each lock.
-pub fn cells_of(alloc: Global, setup: &Setup, pieces: &Pieces) -> Result<Vec<Cells>, MemFault>
+pub fn cells_of(alloc: Global, setup: &Setup, pieces: &Pieces) -> Result<LockCells, MemFault>
     requires { HasPieces setup.now pieces.now }
-    ensures { IfOk result (λ cells. HasCells setup.now cells.items) }
+    ensures { IfOk result (λ cells. HasCells setup.now cells) }
 {
     let mut cells = no_cells(alloc, setup.locks as usize)?;
     for cell in 0..setup.cells {
         note_cell(&mut cells, Cell(cell), pieces.as_slice()[cell as usize])?;
     }
-    Ok(cells)
+    Ok(Items::from_vec(cells))
+}
+
+/// The cells of a lock.
+pub fn cells_at(cells: &LockCells, lock: Lock) -> &Cells
+    requires { lock.0 < length cells.now }
+    ensures { result.now ≡ slice_index_or cells.now lock.0 [] }
+{
+    &cells.as_slice()[lock.0 as usize]
 }

@@ -9,7 +9,7 @@ use crate::barriers::zero_counts;
 use crate::copy::{Values, zero_copy};
 use crate::holds::{Modes, Numbers, nothing_held};
 use crate::home::Home;
-use crate::layout::{Cells, Pieces, cells_of, pieces_of};
+use crate::layout::{LockCells, Pieces, cells_of, pieces_of};
 use crate::mailbox::Mailbox;
 use dsm_base::{Ending, Label, MemFault, Proc, Setup, Task};
 use dsm_trace::{CellValues, Sends};
@@ -43,7 +43,7 @@ pub struct Node<T: Task> {
     mail: Mailbox,
     home: Home,
     pieces: Pieces,
-    cells: Vec<Cells>,
+    cells: LockCells,
 }
 
 impl<T: Task> Node<T> {
@@ -51,7 +51,7 @@ impl<T: Task> Node<T> {
     ghost use Rattle.dsm_trace.specs.Processor.{start_processor};
     ghost use Rattle.dsm_node.specs.Node.{processor_of, setup_of, me_of, IsWhole};
 
-    /// A processor before its first turn.
+    /// A processor before its first turn. `MemFault` for want of memory.
     pub fn start(alloc: Global, setup: Rc<Setup>, me: Proc, task: T) -> Result<Node<T>, MemFault>
         requires me { me.0 < setup.value.procs }
         requires stays { StaysWithin setup.value T.semantics (T.state task) }

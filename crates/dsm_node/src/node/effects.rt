@@ -3,7 +3,7 @@
 ghost use Rattle.std.specs.Prelude.{◌≡◌, ◌+◌, ◌<◌, IfOk, IfSome, OnOk, ◌∷◌, []};
 ghost use Rattle.std.specs.List.{All};
 ghost use Rattle.dsm_trace.specs.Locks.{home_of};
-ghost use Rattle.dsm_trace.specs.Effects.{lock_in};
+ghost use Rattle.dsm_trace.specs.Effects.{lock_in, waiting_of};
 
 use super::Node;
 use dsm_base::{Lock, MemFault, Mode, Proc, Setup, Task};
@@ -12,7 +12,7 @@ use sqlite_items::Items;
 
 /// Who asks in a turn would take the lock in the next.
 fn waiting_of(proc: Proc, turn: u32, mode: Mode) -> Result<Waiting, MemFault>
-    ensures { IfOk result (λ waiting. waiting ≡ record { proc = proc; turn = turn + 1; mode = mode }) }
+    ensures { IfOk result (λ waiting. waiting ≡ waiting_of proc.0 turn mode) }
 {
     let turn = turn.checked_add(1).ok_or(MemFault)?;
     Ok(Waiting { proc, turn, mode })
@@ -37,19 +37,27 @@ fn home_of(setup: &Setup, lock: Lock) -> Proc
 }
 
 impl<T: Task> Node<T> {
+    ghost use Rattle.dsm_trace.specs.declared.message.Body.{Body};
     ghost use Rattle.dsm_trace.specs.Effects.{handled, told_home, message};
-    ghost use Rattle.dsm_node.specs.Node.{processor_of, setup_of, me_of, IsShaped, IsWhole, IsSameNode, asked_effect};
+    ghost use Rattle.dsm_node.specs.Node.{processor_of, setup_of, me_of, IsShaped, IsWhole, IsSameNode};
     ghost use Rattle.dsm_node.specs.Names.{BodyNames, IsSendOf};
 
-    /// Someone asks for a lock. Answers the grants that are sent for it.
-    fn ask_comes(&mut self, lock: Lock, waiting: Waiting) -> Result<Sends, MemFault>
+    /// A processor asks in this turn for a lock. Answers the grants that are sent for it.
+    fn ask_comes(
+        &mut self,
+        from: Proc,
+        turn: u32,
+        lock: Lock,
+        mode: Mode,
+    ) -> Result<Sends, MemFault>
         requires shape { IsShaped self.old }
         requires lock { lock.0 < (setup_of self.old).locks }
-        ensures sends { IfOk result (λ sends. sends ≡ (asked_effect (me_of self.old) (processor_of T.state self.old) lock waiting).sends) }
-        ensures processor { OnOk result (processor_of T.state self.new ≡ (asked_effect (me_of self.old) (processor_of T.state self.old) lock waiting).processor) }
+        ensures sends { IfOk result (λ sends. sends ≡ (handled (me_of self.old) (processor_of T.state self.old) from.0 turn (Body.Req lock mode)).sends) }
+        ensures processor { OnOk result (processor_of T.state self.new ≡ (handled (me_of self.old) (processor_of T.state self.old) from.0 turn (Body.Req lock mode)).processor) }
         ensures shape { OnOk result (IsShaped self.new) }
         ensures same { IsSameNode self.old self.new }
     {
+        let waiting = waiting_of(from, turn, mode)?;
         let granted = self.home.ask(lock, waiting)?;
         self.home
             .send_grants(self.turns, lock, &granted, &mut self.mail)
@@ -86,7 +94,7 @@ impl<T: Task> Node<T> {
         ensures same { IsSameNode self.old self.new }
     {
         match body {
-            Body::Req { lock, mode } => { self.ask_comes(*lock, waiting_of(from, turn, *mode)?) }
+            Body::Req { lock, mode } => { self.ask_comes(from, turn, *lock, *mode) }
             Body::Release {
                 lock,
                 mode,
@@ -164,7 +172,8 @@ impl<T: Task> Node<T> {
         Ok(sends)
     }
 
-    /// Handles a message. Answers the messages that it sends for it.
+    /// Handles a message. Answers the messages that it sends for it. `MemFault` for want of memory,
+    /// or where a turn doesn't fit its number; the processor is then of no more use.
     pub fn receive(&mut self, msg: &Msg) -> Result<Sends, MemFault>
         requires whole { IsWhole T.state T.semantics self.old }
         requires to { msg.now.to.0 ≡ me_of self.old }

@@ -11,6 +11,7 @@ use crate::access::{may_load, may_store};
 use crate::barriers::{change_arrived, change_crossed};
 use crate::copy::{change_copy, read_cells};
 use crate::holds::{change_held, change_versions, mode_at};
+use crate::layout::cells_at;
 use dsm_base::{Cell, Ending, Fault, Label, Lock, MemFault, Mode, Task, Text, Want};
 use dsm_trace::{Body, CellValues};
 use sqlite_items::Items;
@@ -188,7 +189,7 @@ impl<T: Task> Node<T> {
             Mode::Excl => read_cells(
                 self.alloc,
                 &self.copy,
-                self.cells[lock.0 as usize].as_slice(),
+                cells_at(&self.cells, lock).as_slice(),
             )?,
         };
         Ok(Body::Release {
@@ -238,7 +239,8 @@ impl<T: Task> Node<T> {
         Ok((cells, body))
     }
 
-    /// One turn, where the thread can make one.
+    /// One turn, where the thread can make one. `MemFault` for want of memory, or where a turn, a
+    /// version or a count doesn't fit its number; the processor is then of no more use.
     pub fn step(&mut self) -> Result<Option<Stepped>, MemFault>
         requires { IsWhole T.state T.semantics self.old }
         ensures stepped { IfOk result (λ stepped. stepped ≡ stepped_by (setup_of self.old) T.semantics (me_of self.old) (processor_of T.state self.old) (own_turn (setup_of self.old) T.semantics (me_of self.old) (processor_of T.state self.old))) }
