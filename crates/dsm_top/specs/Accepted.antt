@@ -5,7 +5,7 @@ use Rattle.dsm_base.specs.declared.act.Act.{Act}
 use Rattle.dsm_syntax.specs.declared.token.Token.{Token}
 use Rattle.dsm_syntax.specs.Texts.{IsLexed}
 use Rattle.dsm_plain.specs.declared.tree.SmallProgram.{SmallProgram}
-use Rattle.dsm_plain.specs.Answers.{IsTextOf}
+use Rattle.dsm_plain.specs.Spelling.{IsSpelled}
 use Rattle.dsm_sched.specs.Entries.{units_of_text}
 use Rattle.dsm_top.specs.Command.{FileNames}
 
@@ -17,7 +17,7 @@ IsText files name most text = Reads files name most [] text
 pub record IsProgram (text : List ℕ) (program : SmallProgram) : Type 0 where
   pub tokens : List Token
   pub lexed : IsLexed text tokens
-  pub spelled : IsTextOf program tokens
+  pub spelled : IsSpelled tokens program
 
 -- the words name two files, and this is read from the first
 pub record IsProgramText (names : Option FileNames) (files : Option (List ℕ → Option (List ℕ))) (text : List ℕ) : Type 0 where
