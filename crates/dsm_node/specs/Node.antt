@@ -1,6 +1,5 @@
 -- A processor as contracts see it.
 use Rattle.std.specs.Prelude.{◌≡◌, ℕ, pos, ◌+◌, ◌<◌, if◌then◌else◌, length, Option, Some, None}
-use Rattle.dsm_base.specs.declared.names.Lock.{Lock}
 use Rattle.dsm_base.specs.declared.names.Mode.{Mode}
 use Rattle.dsm_base.specs.declared.label.Want.{Want}
 use Rattle.dsm_base.specs.declared.label.Label.{Label}
@@ -8,9 +7,7 @@ use Rattle.dsm_base.specs.declared.setup.Setup.{Setup}
 use Rattle.dsm_base.specs.Threads.{Semantics, StaysWithin, Completes, MayStop, MayBeDone}
 use Rattle.dsm_base.specs.Plain.{label_of}
 use Rattle.dsm_trace.specs.Processor.{Processor, Deed, is_ready, grant_for, own_view, brought, processor_after}
-use Rattle.dsm_trace.specs.Effects.{Effect, turned, granted}
-use Rattle.dsm_trace.specs.Locks.{asked, granted_by_ask}
-use Rattle.dsm_trace.specs.declared.lock.Waiting.{Waiting}
+use Rattle.dsm_trace.specs.Effects.{turned}
 use Rattle.dsm_node.specs.Copy.{copy_of}
 use Rattle.dsm_node.specs.Holds.{held_of, versions_of}
 use Rattle.dsm_node.specs.Barriers.{counts_of}

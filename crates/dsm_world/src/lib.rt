@@ -2,6 +2,7 @@
 #![tactic(auto)]
 
 mod channels;
+mod copies;
 mod lines;
 mod world;
 

@@ -6,16 +6,16 @@ ghost use Rattle.dsm_trace.specs.Fits.{with_unit};
 ghost use Rattle.dsm_base.specs.Threads.{StaysWithin};
 ghost use Rattle.dsm_trace.specs.Processor.{start_processor};
 ghost use Rattle.dsm_node.specs.Node.{processor_of};
-ghost use Rattle.std.specs.List.{list_all};
+ghost use Rattle.std.specs.List.{All, list_all};
 ghost use Rattle.dsm_world.specs.Nodes.{IsNodeOf, AreStartNodes};
 ghost use Rattle.dsm_world.specs.Finished.{is_ended};
-ghost use Rattle.std.specs.List.{All};
 
 use crate::channels::Channels;
+use crate::copies::message_copy;
 use crate::lines::{Lines, line_text, lines_of};
 use dsm_base::{Act, Ending, MemFault, Proc, Setup, Task, TaskMaker, Text};
 use dsm_node::{Node, Stepped};
-use dsm_trace::{Body, Group, Letter, Msg, Rec, Records, Sends, Trace};
+use dsm_trace::{Group, Letter, Msg, Rec, Records, Sends, Trace};
 use sqlite_items::Items;
 use std::alloc::Global;
 use std::rc::Rc;
@@ -42,54 +42,6 @@ pub struct World<M: TaskMaker> {
     sent: u32,
     units: u32,
     trace: Trace,
-}
-
-/// A copy of a body.
-fn body_copy(alloc: Global, body: &Body) -> Result<Body, MemFault>
-    ensures { IfOk result (λ copy. copy ≡ body.now) }
-{
-    Ok(match body {
-        Body::Req { lock, mode } => Body::Req {
-            lock: *lock,
-            mode: *mode,
-        },
-        Body::Grant {
-            lock,
-            mode,
-            turn,
-            version,
-            cells,
-        } => Body::Grant {
-            lock: *lock,
-            mode: *mode,
-            turn: *turn,
-            version: *version,
-            cells: Items::from_slice(alloc, cells.as_slice())?,
-        },
-        Body::Release {
-            lock,
-            mode,
-            version,
-            cells,
-        } => Body::Release {
-            lock: *lock,
-            mode: *mode,
-            version: *version,
-            cells: Items::from_slice(alloc, cells.as_slice())?,
-        },
-    })
-}
-
-/// A copy of a message.
-fn message_copy(alloc: Global, msg: &Msg) -> Result<Msg, MemFault>
-    ensures { IfOk result (λ copy. copy ≡ msg.now) }
-{
-    Ok(Msg {
-        from: msg.from,
-        to: msg.to,
-        carry: msg.carry,
-        body: body_copy(alloc, &msg.body)?,
-    })
 }
 
 /// The line of a turn goes out, where it prints one.
@@ -177,7 +129,7 @@ impl<M: TaskMaker> World<M> {
     ghost use Rattle.dsm_node.specs.Node.{stepped_by, processor_stepped};
     ghost use Rattle.dsm_world.specs.World.{setup_of, shown, unnumbered, with_processor, with_letters, turn_of, handled_at, told_delivery, told_unit, groups_of, units_of, first_of, records_of, IsLetterOf, IsPosted, IsShaped, IsWhole, IsSameWorld};
 
-    /// All processors before their first turns. `Memory` for want of memory.
+    /// All processors before their first turns. `MemFault` for want of memory.
     pub fn new(alloc: Global, setup: Rc<Setup>, maker: M) -> Result<World<M>, MemFault>
         requires procs { 0 < setup.value.procs }
         requires stays { (p : ℕ) → p < setup.value.procs → StaysWithin setup.value M.Made.semantics (M.first maker setup.value.procs p) }
@@ -348,7 +300,8 @@ impl<M: TaskMaker> World<M> {
         }
     }
 
-    /// One more unit. Answers the lines that go out in it. After an error the trace is as before, and
+    /// One more unit. Answers the lines that go out in it. `MemFault` for want of memory, or where a
+    /// number of a turn, a version, a message or a unit doesn't fit; the trace is then as before, and
     /// the world may only tell it, give it up or be dropped.
     pub fn apply(&mut self, act: Act) -> Result<Lines, MemFault>
         requires whole { IsWhole M.Made.state M.first M.Made.semantics self.old }
