@@ -7,19 +7,23 @@ use std::alloc::Global;
 use std::test::Fail;
 
 /// A cell under a lock that each processor adds to.
-const ADDER: &str = "shared int x;\nlock_t L;\nbind(L, x, 0, 1);\nint main(int me, int n) {\n  acquire(L);\n  x = x * 10 + me + 1;\n  print(\"x=\", x);\n  release(L);\n  return 0;\n}\n";
+const ADDER: &str =
+    "shared int x;\nlock_t L;\nbind(L, x, 0, 1);\nint main(int me, int n) {\n  acquire(L);\n  x = x * 10 + me + 1;\n  print(\"x=\", x);\n  release(L);\n  return 0;\n}\n";
 
 /// A cell that is stored to without its lock, on line 5.
-const UNBOUND: &str = "shared int x;\nlock_t L;\nbind(L, x, 0, 1);\nint main(int me, int n) {\n  x = 1;\n}\n";
+const UNBOUND: &str =
+    "shared int x;\nlock_t L;\nbind(L, x, 0, 1);\nint main(int me, int n) {\n  x = 1;\n}\n";
 
 /// A program that ends at once.
 const NOTHING: &str = "int main(int me, int n) { return 0; }\n";
 
 /// Processor 0 first, then processor 1.
-const FIRST: &str = "procs 2\nstep 0 8\nstep 1\ndeliver 1 0\ndeliver 0 1 2\nstep 1 7\ndeliver 1 0 2\n";
+const FIRST: &str =
+    "procs 2\nstep 0 8\nstep 1\ndeliver 1 0\ndeliver 0 1 2\nstep 1 7\ndeliver 1 0 2\n";
 
 /// Processor 1 first, then processor 0.
-const SECOND: &str = "procs 2\nstep 1\ndeliver 1 0\ndeliver 0 1\nstep 1 7\nstep 0\ndeliver 1 0\nstep 0 7\n";
+const SECOND: &str =
+    "procs 2\nstep 1\ndeliver 1 0\ndeliver 0 1\nstep 1 7\nstep 0\ndeliver 1 0\nstep 0 7\n";
 
 fn named(alloc: Global, name: &str, contents: &[u8]) -> Result<NamedFile, Fail> {
     Ok(NamedFile {
@@ -56,11 +60,23 @@ fn runs_print_their_lines(rt: HostRuntime) -> Result<(), Fail> {
     for (program, schedule, status, units, lines) in [
         (ADDER, FIRST, 0, 21, "P0: x=1\nP1: x=12\n"),
         (ADDER, SECOND, 0, 19, "P1: x=2\nP0: x=21\n"),
-        (UNBOUND, "procs 2\nstep 0\nstep 1\n", 1, 2, "P0: fault unbound line 5\nP1: fault unbound line 5\n"),
+        (
+            UNBOUND,
+            "procs 2\nstep 0\nstep 1\n",
+            1,
+            2,
+            "P0: fault unbound line 5\nP1: fault unbound line 5\n",
+        ),
         (NOTHING, "procs 2\n", 2, 0, ""),
         (NOTHING, "procs 2\nstep 0\nstep 1\n", 0, 2, ""),
         (ADDER, "procs 2\nstep 0 500000\n", 2, 500000, "P0: x=1\n"),
-        (ADDER, "# both wait\n\nprocs 2\nstep 1 3\nstep 0 1 # an ask\n", 2, 4, ""),
+        (
+            ADDER,
+            "# both wait\n\nprocs 2\nstep 1 3\nstep 0 1 # an ask\n",
+            2,
+            4,
+            "",
+        ),
     ] {
         let mut files = files(alloc, program.as_bytes(), schedule.as_bytes())?;
         let mut sink = MemSink::new(alloc, 4);

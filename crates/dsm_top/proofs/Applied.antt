@@ -51,7 +51,7 @@ module _ (old new : SmallWorld) (act : Act) (trace : groups_of new ≡ with_unit
   wrote_part held before after lines e are so_far part =
       let all = ap (λ one. lines_of_trace (groups_of old) ++ one) (append-nil (joined lines)) ∙ sym (prints lines are) in
       part_cut held after (lines_of_trace (groups_of new)) e
-        (subst (TakesPart held after) all (part_of held before after (lines_of_trace (groups_of old)) (joined lines) [] so_far part))
+      (subst (TakesPart held after) all (part_of held before after (lines_of_trace (groups_of old)) (joined lines) [] so_far part))
 
   pub fits_next : (schedule : List Act) (index : ℕ) → units_of old ≡ index → act ≡ get_or schedule index act → index < length schedule →
       units_of new ≡ units_of old + 1 → setup_of new ≡ setup_of old → first_in new ≡ first_in old → FitsFirst old schedule → FitsFirst new schedule

@@ -73,4 +73,4 @@ pub ended_refused : (given : Given) (before after : Option (List ℕ)) (faults_b
     Ended given record { before = before; after = after; faults_before = faults_before; faults_after = faults_after; trace = reverse report.trace; units = report.units } report.status
 ended_refused given before after faults_before faults_after report status is refused =
     subst (λ one. Ended given record { before = before; after = after; faults_before = faults_before; faults_after = faults_after; trace = reverse one.trace; units = one.units } one.status) (sym is)
-      (inl record { no_trace = refl; no_units = refl; refused = refused })
+    (inl record { no_trace = refl; no_units = refl; refused = refused })

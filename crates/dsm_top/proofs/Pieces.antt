@@ -35,7 +35,7 @@ pub part_of : (held before now : Option (List ℕ)) (done piece rest : List ℕ)
 part_of held before now done piece rest e part =
     let short : part.count ≤ length piece = omega (arith, part.proper) in
     let front : take (length done + part.count) (done ++ (piece ++ rest)) ≡ done ++ take part.count piece =
-        take-append-add done (piece ++ rest) part.count ∙ ap (λ one. done ++ one) (take-append-le part.count piece rest short) in
+    take-append-add done (piece ++ rest) part.count ∙ ap (λ one. done ++ one) (take-append-le part.count piece rest short) in
     record {
       count = length done + part.count;
       proper = grind (arith, common_steps, part.proper);

@@ -45,7 +45,7 @@ module _ (program : SmallProgram) (schedule : List Act) (law : Law) (all_within 
     within = within;
     fits = fits;
     one_memory = law record { program = program } (small_setup program 2) (reverse (take units schedule)) trace (locks_only program.has_items) (pieces_within program.has_items)
-      (all_front (IsWithin (small_setup program 2)) schedule units all_within) fits;
+        (all_front (IsWithin (small_setup program 2)) schedule units all_within) fits;
   }
 
   module _ (world : SmallWorld) (left : Left) (setup : setup_of world ≡ small_setup program 2) (first : first_in world ≡ small_first program 2)

@@ -56,8 +56,8 @@ in_range low high n is = grind (arith, common_steps, is)
 processor_within : (word : List ℕ) → IfSome (processor_of word) (λ p. p.0 < 2)
 processor_within word =
     mapped (λ n. record { 0 = n }) (number_in 0 1 word) (λ p. p.0 < 2)
-      (and_then (λ n. if nat_le 0 n && nat_le n 1 then Some n else None) (number_of word) (λ n. n < 2)
-        (each (number_of word) _ (λ n. chosen (nat_le 0 n && nat_le n 1) (Some n) (λ n. n < 2) (λ is. let at_most = in_range 0 1 n is in omega (arith, at_most)))))
+    (and_then (λ n. if nat_le 0 n && nat_le n 1 then Some n else None) (number_of word) (λ n. n < 2)
+    (each (number_of word) _ (λ n. chosen (nat_le 0 n && nat_le n 1) (Some n) (λ n. n < 2) (λ is. let at_most = in_range 0 1 n is in omega (arith, at_most)))))
 
 module _ (setup : Setup) (two : setup.procs ≡ 2) where
   within : (p : Proc) → p.0 < 2 → p.0 < setup.procs
@@ -72,11 +72,11 @@ module _ (setup : Setup) (two : setup.procs ≡ 2) where
   deliver_within : (p q : List ℕ) → IfSome (deliver_of p q) (IsWithin setup)
   deliver_within p q =
       and_then (λ p. option_and_then (λ q. if p.0 == q.0 then None else Some (Act.Deliver p q)) (processor_of q)) (processor_of p) (IsWithin setup)
-        (weaker (processor_of p) (λ p. p.0 < 2) _ (λ a a_in.
-          and_then (λ q. if a.0 == q.0 then None else Some (Act.Deliver a q)) (processor_of q) (IsWithin setup)
-            (weaker (processor_of q) (λ q. q.0 < 2) _ (λ b b_in. unless (a.0 == b.0) (Some (Act.Deliver a b)) (IsWithin setup) (λ is. (within a a_in, within b b_in, different a b is)))
-              (processor_within q)))
-          (processor_within p))
+      (weaker (processor_of p) (λ p. p.0 < 2) _ (λ a a_in.
+      and_then (λ q. if a.0 == q.0 then None else Some (Act.Deliver a q)) (processor_of q) (IsWithin setup)
+      (weaker (processor_of q) (λ q. q.0 < 2) _ (λ b b_in. unless (a.0 == b.0) (Some (Act.Deliver a b)) (IsWithin setup) (λ is. (within a a_in, within b b_in, different a b is)))
+      (processor_within q)))
+      (processor_within p))
 
   counted_within : (act : Option Act) (count : Option ℕ) → IfSome act (IsWithin setup) → IfSome (counted act count) (λ entry. IsWithin setup entry.act)
   counted_within None count holds = tt
@@ -102,15 +102,15 @@ module _ (setup : Setup) (two : setup.procs ≡ 2) where
   units_within [] = tt
   units_within (row ∷ rows) =
       and_then (λ entry. option_map (λ units. replicate entry.count entry.act ++ units) (units_of rows)) (entry_of row) (AllByRecursion (IsWithin setup))
-        (weaker (entry_of row) (λ entry. IsWithin setup entry.act) _ (λ entry is. mapped (λ units. replicate entry.count entry.act ++ units) (units_of rows) (AllByRecursion (IsWithin setup))
-          (weaker (units_of rows) (AllByRecursion (IsWithin setup)) _ (λ units all. all_append (IsWithin setup) (replicate entry.count entry.act) units (all_replicate (IsWithin setup) entry.count entry.act is) all) (units_within rows)))
-          (entry_within row))
+      (weaker (entry_of row) (λ entry. IsWithin setup entry.act) _ (λ entry is. mapped (λ units. replicate entry.count entry.act ++ units) (units_of rows) (AllByRecursion (IsWithin setup))
+      (weaker (units_of rows) (AllByRecursion (IsWithin setup)) _ (λ units all. all_append (IsWithin setup) (replicate entry.count entry.act) units (all_replicate (IsWithin setup) entry.count entry.act is) all) (units_within rows)))
+      (entry_within row))
 
   after_procs_within : (rows : List (List (List ℕ))) → IfSome (units_after_procs rows) (AllByRecursion (IsWithin setup))
   after_procs_within [] = tt
   after_procs_within (first ∷ rows) = chosen (is_procs first) (option_and_then limited (units_of rows)) (AllByRecursion (IsWithin setup))
       (λ is. and_then limited (units_of rows) (AllByRecursion (IsWithin setup))
-        (weaker (units_of rows) (AllByRecursion (IsWithin setup)) _ (λ units all. chosen (nat_le (length units) 500000) (Some units) (AllByRecursion (IsWithin setup)) (λ few. all)) (units_within rows)))
+      (weaker (units_of rows) (AllByRecursion (IsWithin setup)) _ (λ units all. chosen (nat_le (length units) 500000) (Some units) (AllByRecursion (IsWithin setup)) (λ few. all)) (units_within rows)))
 
   text_within : (text : List ℕ) → IfSome (units_of_text text) (AllByRecursion (IsWithin setup))
   text_within text = chosen (nat_le (length text) 4194304) (units_after_procs (rows_of text)) (AllByRecursion (IsWithin setup)) (λ short. after_procs_within (rows_of text))

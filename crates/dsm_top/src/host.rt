@@ -5,9 +5,8 @@ ghost use Rattle.std.specs.Prelude.{◌≡◌, None, OnOk, string_bytes};
 ghost use Rattle.dsm_base.specs.Files.{Reads};
 
 use dsm_base::{Files, ReadErr, Sink};
-use std::fs;
 use std::io::{self, Read, Write};
-use std::rt;
+use std::{fs, rt};
 
 /// Files of the host.
 #[derive(Drop)]
@@ -48,7 +47,12 @@ impl<R: rt::Files + Drop> Files for HostFiles<R> {
 }
 
 /// Appends the bytes of a file, at most one more than `most`.
-fn read_file<R: rt::Files>(host: &R, name: &String, most: usize, into: &mut Vec<u8>) -> io::Result<()>
+fn read_file<R: rt::Files>(
+    host: &R,
+    name: &String,
+    most: usize,
+    into: &mut Vec<u8>,
+) -> io::Result<()>
     ensures { OnOk result (Reads None (string_bytes name.now) most into.old.items into.new.items) }
 {
     let mut file = fs::open(host, name.as_str())?;

@@ -173,7 +173,14 @@ fn write_program_error(out: &mut Line, alloc: Global, error: &ProgErr) -> Result
             write_named(out, alloc, "unknown name ", name, "", *line)
         }
         ProgErr::Twice { name, line } => write_named(out, alloc, "name ", name, " twice", *line),
-        ProgErr::WrongKind { name, line } => write_named(out, alloc, "wrong kind ", name, "", *line),
+        ProgErr::WrongKind { name, line } => write_named(
+            out,
+            alloc,
+            "wrong kind ",
+            name,
+            "",
+            *line,
+        ),
         ProgErr::ArgCount {
             name,
             line,

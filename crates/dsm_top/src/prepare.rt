@@ -92,7 +92,9 @@ fn schedule_of<F: Files>(
     };
     match read_schedule(alloc, text.as_slice()) {
         Ok(schedule) => Ok(schedule),
-        Err(SchedErr::NotBuilt { line }) => Err(Status::ScheduleRefused(SchedErr::NotBuilt { line })),
+        Err(SchedErr::NotBuilt { line }) => Err(Status::ScheduleRefused(SchedErr::NotBuilt {
+            line,
+        })),
         Err(SchedErr::Memory) => Err(Status::Memory),
     }
 }

@@ -17,7 +17,12 @@ use dsm_trace::Trace;
 use std::alloc::Global;
 
 /// Writes the message of a refusal; want of memory has none. Answers the status.
-fn refuse<K: Sink>(alloc: Global, names: Option<RunFiles<'_>>, status: Status, out: &mut K) -> Status
+fn refuse<K: Sink>(
+    alloc: Global,
+    names: Option<RunFiles<'_>>,
+    status: Status,
+    out: &mut K,
+) -> Status
     ensures { (given : Given) → given.names ≡ names_in names.entry → RefusesOrMemory given status → RefusedBy given record { before = K.sink_holds out.old; after = K.sink_holds out.new; faults_before = K.sink_faults out.old; faults_after = K.sink_faults out.new; trace = []; units = 0 } result }
 {
     if let Status::Memory = status {

@@ -13,9 +13,11 @@ returns-in-Ok-read_program-clause-program g c = record {
 
 pub returns-in-Err-NotBuilt-clause-refused : goal.returns-in-Err-NotBuilt-clause-refused
 returns-in-Err-NotBuilt-clause-refused g c =
-    let no = no_program c.as_slice.result.now c.in-Ok.text.items c.in-Err-NotBuilt.field-0 c.in-Err-NotBuilt.line c.as_slice.ensures.value c.in-Err-NotBuilt.field-0-is c.in-Err-NotBuilt.ensures in
-    (ap ProgErr.NotBuilt no.0, record {
-      text = c.in-Ok.text.items;
-      is_read = record { two = _; are_named = refl; is_text = c.in-Ok.ensures.text };
-      is_none = no.1;
-    })
+    let no = no_program c.as_slice.result.now c.in-Ok.text.items c.in-Err-NotBuilt.field-0 c.in-Err-NotBuilt.line c.as_slice.ensures.value c.in-Err-NotBuilt.field-0-is c.in-Err-NotBuilt.ensures in (
+      ap ProgErr.NotBuilt no.0,
+      record {
+        text = c.in-Ok.text.items;
+        is_read = record { two = _; are_named = refl; is_text = c.in-Ok.ensures.text };
+        is_none = no.1;
+      },
+    )

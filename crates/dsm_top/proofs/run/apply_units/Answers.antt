@@ -23,7 +23,7 @@ returns-in_err-put_lines-clause-cut g c =
     let act = get_or c.args.units.now c.loop-act.act-index any in
     let p = err_from_is_err_and c.from_residual-in_err-put_lines.result c.from_residual-in_err-put_lines.ensures.1 in
     rw (p.1) (wrote_part c.loop-act.world c.apply.new.self act c.in_ok-lines.ensures.trace (g.K.Sink.sink_holds c.args.out.now) (g.K.Sink.sink_holds c.loop-act.out) (g.K.Sink.sink_holds c.put_lines.new.out) c.in_ok-lines.lines p.0
-      c.in_ok-lines.ensures.lines c.loop-act.invariant.wrote c.in_err-put_lines.ensures.part)
+    c.in_ok-lines.ensures.lines c.loop-act.invariant.wrote c.in_err-put_lines.ensures.part)
 
 pub loop-act-preserved : goal.loop-act-preserved
 loop-act-preserved g c = let act = get_or c.args.units.now c.loop-act.act-index any in record {
@@ -34,8 +34,8 @@ loop-act-preserved g c = let act = get_or c.args.units.now c.loop-act.act-index 
   };
   count = c.in_ok-lines.ensures.units ∙ ap (λ n. n + 1) c.loop-act.invariant.count;
   fits = fits_next c.loop-act.world c.apply.new.self act c.in_ok-lines.ensures.trace c.args.units.now c.loop-act.act-index c.loop-act.invariant.count (get_or_default c.args.units.now c.loop-act.act-index any act c.loop-act-test.true) c.loop-act-test.true
-    c.in_ok-lines.ensures.units c.apply.ensures.setup c.apply.ensures.first c.loop-act.invariant.fits;
+      c.in_ok-lines.ensures.units c.apply.ensures.setup c.apply.ensures.first c.loop-act.invariant.fits;
   wrote = wrote_next c.loop-act.world c.apply.new.self act c.in_ok-lines.ensures.trace (g.K.Sink.sink_holds c.args.out.now) (g.K.Sink.sink_holds c.loop-act.out) (g.K.Sink.sink_holds c.put_lines.new.out) c.in_ok-lines.lines
-    c.in_ok-lines.ensures.lines c.loop-act.invariant.wrote c.in_ok-put_lines.ensures.whole;
+      c.in_ok-lines.ensures.lines c.loop-act.invariant.wrote c.in_ok-put_lines.ensures.whole;
   later = omega (arith, c.loop-act.invariant.later, c.put_lines.ensures.cause.later);
 }

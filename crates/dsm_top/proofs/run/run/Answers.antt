@@ -24,12 +24,12 @@ returns g c =
       units = c.units-units.result;
     } in
     elim c.match-apply_units.branch [
-    | in-Ok-apply_units w ↦
-        let all : units_of world ≡ length schedule = subst (λ units. units_of world ≡ length units) c.as_slice.ensures w.in-Ok-apply_units.ensures.all in
-        rw (w.status-is, w.status_of-status.ensures)
+      | in-Ok-apply_units w ↦
+          let all : units_of world ≡ length schedule = subst (λ units. units_of world ≡ length units) c.as_slice.ensures w.in-Ok-apply_units.ensures.all in
+          rw (w.status-is, w.status_of-status.ensures)
           (ran_whole program schedule c.one_memory.ensures c.requires.within world left setup first within fits c.into_trace.ensures c.units-units.ensures w.finished.result w.finished.ensures all w.in-Ok-apply_units.ensures.wrote)
-    | in-Err-Failed w ↦ rw (w.status-is)
-        (ran_cut program schedule c.one_memory.ensures c.requires.within world left setup first within fits c.into_trace.ensures c.units-units.ensures (rw (w.in-Err-Failed.field-0-is) at w.in-Err-Failed.ensures.cut) (rw (w.in-Err-Failed.field-0-is) at w.in-Err-Failed.ensures.cause.rose))
-    | in-Err-Memory w ↦ rw (w.status-is)
-        (ran_short program schedule c.one_memory.ensures c.requires.within world left setup first within fits c.into_trace.ensures c.units-units.ensures (rw (w.in-Err-Memory.field-0-is) at w.in-Err-Memory.ensures.cut))
+      | in-Err-Failed w ↦ rw (w.status-is)
+          (ran_cut program schedule c.one_memory.ensures c.requires.within world left setup first within fits c.into_trace.ensures c.units-units.ensures (rw (w.in-Err-Failed.field-0-is) at w.in-Err-Failed.ensures.cut) (rw (w.in-Err-Failed.field-0-is) at w.in-Err-Failed.ensures.cause.rose))
+      | in-Err-Memory w ↦ rw (w.status-is)
+          (ran_short program schedule c.one_memory.ensures c.requires.within world left setup first within fits c.into_trace.ensures c.units-units.ensures (rw (w.in-Err-Memory.field-0-is) at w.in-Err-Memory.ensures.cut))
     ]
