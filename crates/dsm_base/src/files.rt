@@ -107,6 +107,7 @@ impl Files for MemFiles {
         ensures cause { HasCause self.old.faults self.new.faults result }
         ensures failed { IsErrOf result ReadErr.Failed ↔ ((is_due CallKind.Read self.old.plan ≡ true) ⊎ (contents_of self.old.files (string_bytes name.now) ≡ None)) }
         ensures counted { self.new.plan ≡ counted CallKind.Read self.old.plan }
+        ensures calm { OnOk result (self.new.faults ≡ self.old.faults) }
     {
         let due = self.plan.count(CallKind::Read);
         let contents = match contents_of(self.files.as_slice(), name.as_bytes()) {

@@ -10,6 +10,8 @@ mod plan;
 mod setup;
 mod sink;
 mod task;
+#[cfg(test)]
+mod tests;
 mod text;
 
 pub use act::{Act, SchedErr};

@@ -47,6 +47,7 @@ impl MemSink {
     pub fn new(alloc: Global, piece: usize) -> MemSink
         requires { 1 ≤ piece }
         ensures bytes { result.bytes.items ≡ [] }
+        ensures piece { result.piece ≡ piece }
         ensures plan { result.plan ≡ [] }
         ensures faults { result.faults ≡ 0 }
     {
@@ -76,7 +77,7 @@ impl MemSink {
 }
 
 impl Sink for MemSink {
-    ghost use Rattle.std.specs.Prelude.{◌≡◌, ◌↔◌, Some, IsErrOf, true};
+    ghost use Rattle.std.specs.Prelude.{◌≡◌, ◌↔◌, Some, IsErrOf, IfOk, OnOk, true, length, min};
     ghost use Rattle.dsm_base.specs.declared.plan.CallKind.{CallKind};
     ghost use Rattle.dsm_base.specs.declared.errors.ReadErr.{ReadErr};
     ghost use Rattle.dsm_base.specs.Causes.{HasCause};
@@ -92,6 +93,9 @@ impl Sink for MemSink {
         ensures cause { HasCause self.old.faults self.new.faults result }
         ensures failed { IsErrOf result ReadErr.Failed ↔ (is_due CallKind.Put self.old.plan ≡ true) }
         ensures counted { self.new.plan ≡ counted CallKind.Put self.old.plan }
+        ensures count { IfOk result (λ count. count ≡ min (length bytes.now) self.old.piece) }
+        ensures piece { self.new.piece ≡ self.old.piece }
+        ensures calm { OnOk result (self.new.faults ≡ self.old.faults) }
     {
         if self.plan.count(CallKind::Put) {
             self.faults = self.faults.saturating_add(1);

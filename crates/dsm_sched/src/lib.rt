@@ -4,6 +4,8 @@
 mod entry;
 mod lines;
 mod schedule;
+#[cfg(test)]
+mod tests;
 mod words;
 
 pub use entry::{Entry, Kind};
