@@ -164,6 +164,28 @@ fn other_schedules_are_refused(rt: HostRuntime) -> Result<(), Fail> {
     Ok(())
 }
 
+/// A schedule without units that has so many bytes.
+fn long_schedule(alloc: Global, bytes: usize) -> Result<Vec<u8>, Fail> {
+    let mut schedule = Vec::from_slice(alloc, b"procs 2\n")?;
+    for _ in schedule.len()..bytes {
+        schedule.push(b' ')?;
+    }
+    Ok(schedule)
+}
+
+#[test]
+fn schedules_have_a_most_of_bytes(rt: HostRuntime) -> Result<(), Fail> {
+    let alloc = rt.alloc();
+    for (bytes, status) in [(4_194_304, 2), (4_194_305, 4), (4_198_400, 4)] {
+        let schedule = long_schedule(alloc, bytes)?;
+        let mut files = files(alloc, NOTHING.as_bytes(), schedule.as_slice())?;
+        let mut sink = MemSink::new(alloc, 4096);
+        let report = call(alloc, &mut files, &mut sink)?;
+        assert_eq!(rt; report.status.number(), status, "{bytes}");
+    }
+    Ok(())
+}
+
 #[test]
 fn words_and_missing_files_are_refused(rt: HostRuntime) -> Result<(), Fail> {
     let alloc = rt.alloc();
