@@ -1,16 +1,13 @@
 -- What one more unit leaves of a run.
-use Rattle.std.specs.Prelude.{◌≡◌, ◌≤◌, ◌<◌, ℕ, ◌+◌, List, [], ◌∷◌, ◌++◌, length, take, reverse, Option}
+use Rattle.std.specs.Prelude.{◌≡◌, ◌<◌, ℕ, ◌+◌, List, [], ◌∷◌, ◌++◌, length, take, reverse, Option}
 use Rattle.std.proofs.Common.{refl, sym, ap, ◌∙◌, arith, subst, append-nil}
 use Rattle.std.proofs.Math.ListN.{get_or}
 use Rattle.std.proofs.lemmas.Grind.{common_steps}
 use Rattle.dsm_base.specs.declared.act.Act.{Act}
 use Rattle.dsm_base.specs.declared.errors.ReadErr.{ReadErr}
-use Rattle.dsm_base.specs.declared.setup.Setup.{Setup}
 use Rattle.dsm_base.specs.Sink.{appended, TakesPart}
-use Rattle.dsm_trace.specs.declared.trace.Group.{Group}
 use Rattle.dsm_trace.specs.Fits.{with_unit, FitsUnits}
 use Rattle.dsm_trace.specs.Told.{told_by}
-use Rattle.dsm_plain.specs.declared.state.SmallState.{SmallState}
 use Rattle.dsm_plain.specs.Meaning.{small_semantics}
 use Rattle.dsm_world.specs.Lines.{lines_of}
 use Rattle.dsm_world.specs.World.{setup_of, groups_of, units_of, records_of}

@@ -1,5 +1,5 @@
 -- What a refusal leaves.
-use Rattle.std.specs.Prelude.{◌≡◌, ◌⊎◌, ℕ, List, [], reverse, Option, Some, None}
+use Rattle.std.specs.Prelude.{◌≡◌, ℕ, List, [], reverse, Option}
 use Rattle.std.proofs.Common.{refl, sym, ap, ◌∙◌, subst, inl, inr}
 use Rattle.dsm_base.specs.Causes.{Rose}
 use Rattle.dsm_base.specs.Sink.{appended, TakesPart}
@@ -8,7 +8,7 @@ use Rattle.dsm_top.specs.declared.status.Report.{Report}
 use Rattle.dsm_top.specs.Command.{FileNames}
 use Rattle.dsm_top.specs.Messages.{message_of, message_line, refusal_text}
 use Rattle.dsm_top.specs.Refusals.{Given, Refuses, RefusesOrMemory}
-use Rattle.dsm_top.specs.Ended.{Left, RefusedWhole, RefusedBy, RefusedCut, RefusedShort, Refused, Ended}
+use Rattle.dsm_top.specs.Ended.{Left, RefusedWhole, RefusedBy, RefusedCut, RefusedShort, Ended}
 
 -- a refusal that is no want of memory has a cause
 refuses : (given : Given) (status : Status) → (status ≡ Status.Memory → ⊥) → RefusesOrMemory given status → Refuses given status

@@ -1,5 +1,5 @@
 -- Faults of what was handed in.
-use Rattle.std.specs.Prelude.{◌≡◌, ◌≤◌, ℕ, Result, Err}
+use Rattle.std.specs.Prelude.{◌≤◌, ℕ, Err}
 use Rattle.std.proofs.Common.{arith}
 use Rattle.dsm_base.specs.declared.errors.ReadErr.{ReadErr}
 use Rattle.dsm_base.specs.Causes.{Rose, IfFailed, HasCause}

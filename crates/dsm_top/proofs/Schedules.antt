@@ -1,17 +1,15 @@
 -- The units of a schedule name the two processors.
 use Rattle.std.specs.Prelude.{◌≡◌, ◌≢◌, ◌≤◌, ◌<◌, ℕ, zero, suc, Bool, true, false, ◌&&◌, ◌==◌, nat_le, if◌then◌else◌, List, [], ◌∷◌, ◌++◌, length, replicate, Option, Some, None, option_and_then, option_map, IfSome}
 use Rattle.std.specs.List.{AllByRecursion}
-use Rattle.std.specs.Str.{bytes_eq}
 use Rattle.std.proofs.Common.{refl, arith, subst}
 use Rattle.std.proofs.lemmas.Grind.{common_steps}
 use Rattle.dsm_base.specs.declared.names.Proc.{Proc}
 use Rattle.dsm_base.specs.declared.act.Act.{Act}
 use Rattle.dsm_base.specs.declared.setup.Setup.{Setup}
 use Rattle.dsm_trace.specs.Fits.{IsWithin}
-use Rattle.dsm_sched.specs.declared.entry.Entry.{Entry}
 use Rattle.dsm_sched.specs.declared.entry.Kind.{Kind}
 use Rattle.dsm_sched.specs.Words.{rows_of, number_of}
-use Rattle.dsm_sched.specs.Entries.{number_in, processor_of, count_of, step_of, deliver_of, counted, kind_of, step_entry, deliver_entry, entry_by, entry_of, units_of, is_procs, limited, units_after_procs, units_of_text}
+use Rattle.dsm_sched.specs.Entries.{number_in, processor_of, count_of, step_of, deliver_of, counted, kind_of, entry_by, entry_of, units_of, is_procs, limited, units_after_procs, units_of_text}
 
 -- What holds of what is there.
 

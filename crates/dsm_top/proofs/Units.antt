@@ -18,7 +18,7 @@ use Rattle.dsm_trace.specs.Processor.{Deed, own_turn}
 use Rattle.dsm_trace.specs.Effects.{turned, handled}
 use Rattle.dsm_trace.specs.Told.{Told}
 use Rattle.dsm_trace.specs.Rows.{sent_records, out_records, step_records, delivery_records, unit_records}
-use Rattle.dsm_trace.specs.Fits.{IsWithin, with_unit, FitsUnits}
+use Rattle.dsm_trace.specs.Fits.{with_unit}
 use Rattle.dsm_trace.specs.History.{turns_onto, history}
 use Rattle.dsm_trace.proofs.Numbered.{all_push}
 use Rattle.dsm_world.specs.Lines.{lines_of}

@@ -1,7 +1,6 @@
 -- Why a call is refused before anything runs.
 use Rattle.std.specs.Prelude.{◌≡◌, ℕ, List, Option, Some, None, Result, Ok, Err, zero, suc}
 use Rattle.dsm_base.specs.Causes.{Rose}
-use Rattle.dsm_base.specs.declared.act.Act.{Act}
 use Rattle.dsm_base.specs.declared.act.SchedErr.{SchedErr}
 use Rattle.dsm_syntax.specs.declared.errors.ProgErr.{ProgErr}
 use Rattle.dsm_plain.specs.declared.tree.SmallProgram.{SmallProgram}

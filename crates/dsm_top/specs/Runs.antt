@@ -1,8 +1,8 @@
 -- Worlds of small programs, and what is written of them.
-use Rattle.std.specs.Prelude.{◌≡◌, ◌⊎◌, ℕ, List, take, reverse, Option}
+use Rattle.std.specs.Prelude.{◌≡◌, ℕ, List, take, reverse, Option}
 use Rattle.dsm_base.specs.declared.act.Act.{Act}
 use Rattle.dsm_base.specs.declared.errors.ReadErr.{ReadErr}
-use Rattle.dsm_base.specs.Sink.{appended, TakesPart}
+use Rattle.dsm_base.specs.Sink.{TakesPart}
 use Rattle.dsm_trace.specs.Fits.{FitsUnits}
 use Rattle.dsm_plain.specs.declared.thread.SmallMaker.{SmallMaker}
 use Rattle.dsm_plain.specs.declared.thread.SmallThread.{SmallThread}

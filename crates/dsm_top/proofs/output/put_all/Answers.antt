@@ -1,6 +1,5 @@
-use Rattle.std.proofs.Common.{◌≡◌, ◌<◌, ◌≤◌, ◌-◌, length, drop, take, arith}
-use Rattle.std.proofs.lemmas.List.{length-drop, length-take}
-use Rattle.dsm_base.specs.Sink.{Takes}
+use Rattle.std.proofs.Common.{arith}
+use Rattle.std.proofs.lemmas.List.{length-drop}
 use Rattle.dsm_top.proofs.Pieces.{more_taken}
 use Rattle.dsm_top.proofs.output.put_all.Goals as goal
 

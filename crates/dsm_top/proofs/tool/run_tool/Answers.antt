@@ -1,7 +1,7 @@
-use Rattle.std.proofs.Common.{refl, sym, ap, subst, inr, ◌∙◌, Some}
+use Rattle.std.proofs.Common.{refl, sym, subst, inr}
 use Rattle.dsm_plain.specs.Setups.{small_setup}
 use Rattle.dsm_top.specs.Accepted.{IsAccepted}
-use Rattle.dsm_top.specs.Refusals.{Given, RefusesOrMemory}
+use Rattle.dsm_top.specs.Refusals.{RefusesOrMemory}
 use Rattle.dsm_top.proofs.Calls.{ended_refused}
 use Rattle.dsm_top.proofs.Schedules.{schedule_within}
 use Rattle.dsm_top.proofs.tool.run_tool.Goals as goal
