@@ -11,3 +11,5 @@ pub mod Continuations
 pub mod Refusals
 pub mod Slices
 pub mod Completions
+pub mod Sounds
+pub mod Shown

@@ -7,3 +7,7 @@ pub mod Texts
 pub mod Fronts
 pub mod OpenEnds
 pub mod Places
+pub mod Tree
+pub mod Views
+pub mod Sound
+pub mod Programs

@@ -11,6 +11,7 @@ use crate::errors::{ProgErr, Which};
 use crate::front::{Front, Shape, front_of, newlines};
 use crate::token::{Token, TokenKind, Tokens};
 use dsm_base::Text;
+use sqlite_items::Items;
 use std::alloc::Global;
 
 /// The most bytes of a program.
@@ -46,7 +47,7 @@ fn kind_of(alloc: Global, shape: Shape, bytes: &[u8]) -> Result<Option<TokenKind
 
 /// Adds a token, where there are not too many.
 fn add(
-    tokens: &mut Tokens,
+    tokens: &mut Items<Token>,
     kind: Option<TokenKind>,
     at: u32,
     len: u32,
@@ -75,13 +76,13 @@ fn add(
 }
 
 /// The tokens of a text that isn't too long.
-fn read(alloc: Global, text: &[u8]) -> Result<Tokens, ProgErr>
+fn read(alloc: Global, text: &[u8]) -> Result<Items<Token>, ProgErr>
     requires { length text.now ≤ 262144 }
     ensures { MatchResult result
         (λ tokens. IsLexed text.now tokens)
         (λ e. (e ≡ ProgErr.Memory) ⊎ IsRefused text.now e) }
 {
-    let mut tokens = Tokens::new(alloc);
+    let mut tokens = Items::new(alloc);
     let mut at = 0;
     let mut line = 1;
     while at < text.len() {
@@ -93,6 +94,19 @@ fn read(alloc: Global, text: &[u8]) -> Result<Tokens, ProgErr>
         at += front.len;
     }
     Ok(tokens)
+}
+
+/// The same as the type keeps them.
+fn list(alloc: Global, text: &[u8]) -> Result<Tokens, ProgErr>
+    requires { length text.now ≤ 262144 }
+    ensures { MatchResult result
+        (λ tokens. IsLexed text.now tokens)
+        (λ e. (e ≡ ProgErr.Memory) ⊎ IsRefused text.now e) }
+{
+    match read(alloc, text) {
+        Ok(tokens) => Ok(Tokens::new(tokens)),
+        Err(e) => Err(e),
+    }
 }
 
 /// The tokens of a program's text, in order. Blank space and comments stand between them.
@@ -122,5 +136,5 @@ pub fn lex(alloc: Global, text: &[u8]) -> Result<Tokens, ProgErr>
             count: text.len().min(u32::MAX as usize) as u32,
         });
     }
-    read(alloc, text)
+    list(alloc, text)
 }

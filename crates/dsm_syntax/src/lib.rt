@@ -1,4 +1,4 @@
-//! The tokens of a program's text.
+//! The tokens of a program's text, and its syntax tree.
 #![tactic(auto)]
 
 mod bytes;
@@ -8,6 +8,7 @@ mod laws;
 mod lexer;
 mod sign;
 mod token;
+mod tree;
 mod word;
 
 pub use errors::{ProgErr, Which};
@@ -15,6 +16,10 @@ pub use laws::{one_list_of_tokens, refused_for_good, tokens_in_place, tokens_or_
 pub use lexer::{MOST_TEXT, lex};
 pub use sign::Sign;
 pub use token::{Token, TokenKind, Tokens};
+pub use tree::{
+    AssignOp, BinaryOp, Bind, BindBarrier, BindEach, Declarator, Expr, ForStart, Function, Initial,
+    Item, Name, Params, Part, Place, Returns, Sharing, StepOp, Stmt, Tree, UnaryOp, Variable,
+};
 pub use word::Word;
 
 #[cfg(test)]

@@ -1,9 +1,13 @@
 //! Tokens.
 
+ghost use Rattle.std.specs.Prelude.{IsTrue};
+ghost use Rattle.dsm_syntax.specs.Sound.{are_sound};
+
 use crate::sign::Sign;
 use crate::word::Word;
 use dsm_base::Text;
 use sqlite_items::Items;
+use std::marker::Model;
 
 /// What a token is.
 #[derive(Debug, Drop)]
@@ -25,5 +29,44 @@ pub struct Token {
     pub line: u32,
 }
 
-/// Tokens in the order of the text.
-pub type Tokens = Items<Token>;
+/// Tokens in the order of the text, which contracts see as a list. No number is below 0, and no string holds a byte
+/// that it may not.
+#[derive(Debug, Drop)]
+pub struct Tokens {
+    list: Items<Token>,
+    ghost sound: { IsTrue (are_sound list) },
+}
+
+impl Model for Tokens {
+    ghost use Rattle.std.specs.Prelude.{List};
+    ghost use Rattle.dsm_syntax.specs.declared.token.Token.{Token};
+
+    ghost Value = { List Token };
+
+    ghost view = { λ tokens. tokens.list };
+}
+
+impl Tokens {
+    ghost use Rattle.std.specs.Prelude.{◌≡◌, length};
+
+    /// The same tokens.
+    pub fn new(list: Items<Token>) -> Tokens
+        requires { IsTrue (are_sound list) }
+        ensures { result ≡ list }
+    {
+        Tokens { list }
+    }
+
+    pub fn as_slice(&self) -> &[Token]
+        ensures value { result.now ≡ self.now }
+        ensures sound { IsTrue (are_sound self.now) }
+    {
+        self.list.as_slice()
+    }
+
+    pub fn len(&self) -> usize
+        ensures { result ≡ length self.now }
+    {
+        self.list.len()
+    }
+}
