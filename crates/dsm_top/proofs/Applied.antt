@@ -8,7 +8,7 @@ use Rattle.dsm_base.specs.declared.errors.ReadErr.{ReadErr}
 use Rattle.dsm_base.specs.Sink.{appended, TakesPart}
 use Rattle.dsm_trace.specs.Fits.{with_unit, FitsUnits}
 use Rattle.dsm_trace.specs.Told.{told_by}
-use Rattle.dsm_plain.specs.Meaning.{small_semantics}
+use Rattle.dsm_small.specs.Meaning.{small_semantics}
 use Rattle.dsm_world.specs.Lines.{lines_of}
 use Rattle.dsm_world.specs.World.{setup_of, groups_of, units_of, records_of}
 use Rattle.dsm_top.specs.Ended.{joined, lines_of_trace, TakesFront}

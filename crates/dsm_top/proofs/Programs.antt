@@ -4,9 +4,9 @@ use Rattle.std.proofs.Common.{inl, inr, subst, sym}
 use Rattle.dsm_syntax.specs.declared.token.Token.{Token}
 use Rattle.dsm_syntax.specs.declared.errors.ProgErr.{ProgErr}
 use Rattle.dsm_syntax.specs.Texts.{IsLexed, IsAnswer}
-use Rattle.dsm_plain.specs.declared.tree.SmallProgram.{SmallProgram}
-use Rattle.dsm_plain.specs.Spelling.{IsSpelled}
-use Rattle.dsm_plain.specs.Reader.{IsAnswerTo}
+use Rattle.dsm_small.specs.declared.tree.SmallProgram.{SmallProgram}
+use Rattle.dsm_small.specs.Spelling.{IsSpelled}
+use Rattle.dsm_small.specs.Reader.{IsAnswerTo}
 use Rattle.dsm_top.specs.Refusals.{IsNoProgram, IsReadProgram}
 
 same_tokens : (result : Result (List Token) ProgErr) (tokens other : List Token) → result ≡ Ok tokens → IsAnswer result (Ok other) → tokens ≡ other

@@ -11,10 +11,10 @@ use Rattle.dsm_trace.specs.declared.trace.Group.{Group}
 use Rattle.dsm_trace.specs.Fits.{IsWithin, FitsUnits}
 use Rattle.dsm_trace.specs.OneMemory.{is_any_lock, BindsLocksOnly, IsOneMemory}
 use Rattle.dsm_laws_locks.specs.Within.{BindsWithin}
-use Rattle.dsm_plain.specs.declared.thread.SmallMaker.{SmallMaker}
-use Rattle.dsm_plain.specs.declared.tree.SmallProgram.{SmallProgram}
-use Rattle.dsm_plain.specs.Meaning.{small_first, small_semantics}
-use Rattle.dsm_plain.specs.Setups.{the_piece, small_setup}
+use Rattle.dsm_small.specs.declared.thread.SmallMaker.{SmallMaker}
+use Rattle.dsm_small.specs.declared.tree.SmallProgram.{SmallProgram}
+use Rattle.dsm_small.specs.Meaning.{small_first, small_semantics}
+use Rattle.dsm_small.specs.Setups.{the_piece, small_setup}
 use Rattle.dsm_world.specs.declared.world.Finished.{Finished}
 use Rattle.dsm_world.specs.Finished.{finished_by}
 use Rattle.dsm_world.specs.World.{setup_of, groups_of, units_of}

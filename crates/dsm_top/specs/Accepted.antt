@@ -4,8 +4,8 @@ use Rattle.dsm_base.specs.Files.{Reads}
 use Rattle.dsm_base.specs.declared.act.Act.{Act}
 use Rattle.dsm_syntax.specs.declared.token.Token.{Token}
 use Rattle.dsm_syntax.specs.Texts.{IsLexed}
-use Rattle.dsm_plain.specs.declared.tree.SmallProgram.{SmallProgram}
-use Rattle.dsm_plain.specs.Spelling.{IsSpelled}
+use Rattle.dsm_small.specs.declared.tree.SmallProgram.{SmallProgram}
+use Rattle.dsm_small.specs.Spelling.{IsSpelled}
 use Rattle.dsm_sched.specs.Entries.{units_of_text}
 use Rattle.dsm_top.specs.Command.{FileNames}
 

@@ -9,9 +9,9 @@ use Rattle.dsm_trace.specs.declared.trace.Group.{Group}
 use Rattle.dsm_trace.specs.Fits.{FitsUnits}
 use Rattle.dsm_trace.specs.History.{history, deeds_of, ending_of}
 use Rattle.dsm_trace.specs.OneMemory.{IsOneMemory}
-use Rattle.dsm_plain.specs.declared.tree.SmallProgram.{SmallProgram}
-use Rattle.dsm_plain.specs.Meaning.{small_first, small_semantics}
-use Rattle.dsm_plain.specs.Setups.{small_setup}
+use Rattle.dsm_small.specs.declared.tree.SmallProgram.{SmallProgram}
+use Rattle.dsm_small.specs.Meaning.{small_first, small_semantics}
+use Rattle.dsm_small.specs.Setups.{small_setup}
 use Rattle.dsm_world.specs.declared.world.Finished.{Finished}
 use Rattle.dsm_world.specs.Finished.{finished_by}
 use Rattle.dsm_top.specs.declared.status.Status.{Status}

@@ -3,7 +3,7 @@ use Rattle.std.specs.Prelude.{◌≡◌, ℕ, List, Option, Some, None, Result, 
 use Rattle.dsm_base.specs.Causes.{Rose}
 use Rattle.dsm_base.specs.declared.act.SchedErr.{SchedErr}
 use Rattle.dsm_syntax.specs.declared.errors.ProgErr.{ProgErr}
-use Rattle.dsm_plain.specs.declared.tree.SmallProgram.{SmallProgram}
+use Rattle.dsm_small.specs.declared.tree.SmallProgram.{SmallProgram}
 use Rattle.dsm_sched.specs.Entries.{units_of_text}
 use Rattle.dsm_top.specs.declared.status.Status.{Status}
 use Rattle.dsm_top.specs.Command.{FileNames}

@@ -4,10 +4,10 @@ use Rattle.dsm_base.specs.declared.act.Act.{Act}
 use Rattle.dsm_base.specs.declared.errors.ReadErr.{ReadErr}
 use Rattle.dsm_base.specs.Sink.{TakesPart}
 use Rattle.dsm_trace.specs.Fits.{FitsUnits}
-use Rattle.dsm_plain.specs.declared.thread.SmallMaker.{SmallMaker}
-use Rattle.dsm_plain.specs.declared.thread.SmallThread.{SmallThread}
-use Rattle.dsm_plain.specs.declared.state.SmallState.{SmallState}
-use Rattle.dsm_plain.specs.Meaning.{small_first, small_semantics}
+use Rattle.dsm_small.specs.declared.thread.SmallMaker.{SmallMaker}
+use Rattle.dsm_small.specs.declared.thread.SmallThread.{SmallThread}
+use Rattle.dsm_small.specs.declared.state.SmallState.{SmallState}
+use Rattle.dsm_small.specs.Meaning.{small_first, small_semantics}
 use Rattle.dsm_world.specs.declared.world.World.{World}
 use Rattle.dsm_world.specs.World.{setup_of, first_of, groups_of, units_of, IsWhole}
 use Rattle.dsm_top.specs.Ended.{TakesFront}

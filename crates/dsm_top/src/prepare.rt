@@ -3,7 +3,7 @@
 ghost use Rattle.std.specs.Prelude.{◌≡◌, ◌≤◌, ℕ, List, Some, string_bytes, IfOk, IfErr};
 ghost use Rattle.dsm_base.specs.Causes.{HasCause};
 ghost use Rattle.dsm_base.specs.Files.{Reads};
-ghost use Rattle.dsm_plain.specs.declared.tree.SmallProgram.{SmallProgram};
+ghost use Rattle.dsm_small.specs.declared.tree.SmallProgram.{SmallProgram};
 ghost use Rattle.dsm_top.specs.Accepted.{IsText, HasProgram, HasSchedule, IsAccepted};
 ghost use Rattle.dsm_top.specs.Command.{names_of};
 ghost use Rattle.dsm_top.specs.Refusals.{IsReadProgram, RefusesOrMemory};
@@ -11,7 +11,7 @@ ghost use Rattle.dsm_top.specs.Refusals.{IsReadProgram, RefusesOrMemory};
 use crate::command::RunFiles;
 use crate::status::Status;
 use dsm_base::{Files, ReadErr, SchedErr};
-use dsm_plain::{SmallProgram, read_small};
+use dsm_small::{SmallProgram, read_small};
 use dsm_sched::{MOST_BYTES, Schedule, read_schedule};
 use dsm_syntax::{MOST_TEXT, ProgErr, lex};
 use std::alloc::Global;

@@ -1,5 +1,5 @@
 use Rattle.std.proofs.Common.{refl, sym, subst, inr}
-use Rattle.dsm_plain.specs.Setups.{small_setup}
+use Rattle.dsm_small.specs.Setups.{small_setup}
 use Rattle.dsm_top.specs.Accepted.{IsAccepted}
 use Rattle.dsm_top.specs.Refusals.{RefusesOrMemory}
 use Rattle.dsm_top.proofs.Calls.{ended_refused}
