@@ -95,7 +95,7 @@ fn schedule_of<F: Files>(
         Err(SchedErr::NotBuilt { line }) => Err(Status::ScheduleRefused(SchedErr::NotBuilt {
             line,
         })),
-        Err(SchedErr::Memory) => Err(Status::Memory),
+        Err(_) => Err(Status::Memory),
     }
 }
 
