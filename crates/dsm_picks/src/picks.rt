@@ -5,10 +5,9 @@ ghost use Rattle.dsm_picks.specs.Picks.{is_picks, picked_by};
 
 mod unrolled;
 
-pub(crate) use unrolled::count;
-
 use dsm_base::Proc;
 use sqlite_items::Items;
+pub(crate) use unrolled::count;
 
 /// An entry of a list of picks.
 #[derive(Clone, Copy, Debug, PartialEq, Eq)]
