@@ -3,3 +3,9 @@ pub mod Good
 pub mod Singles
 pub mod Repeats
 pub mod Lists
+pub mod Bodies
+pub mod Declarations
+pub mod Bindings
+pub mod Functions
+pub mod Items
+pub mod Spellings
