@@ -9,3 +9,4 @@ pub mod Bindings
 pub mod Functions
 pub mod Items
 pub mod Spellings
+pub mod Exact
