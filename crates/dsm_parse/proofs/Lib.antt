@@ -10,3 +10,4 @@ pub mod Functions
 pub mod Items
 pub mod Spellings
 pub mod Exact
+pub mod Soundness
