@@ -7,3 +7,5 @@ pub mod Refusals
 pub mod Reading
 pub mod Tokens
 pub mod Gives
+pub mod Signs
+pub mod Expressions

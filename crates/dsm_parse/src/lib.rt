@@ -2,7 +2,9 @@
 #![tactic(auto)]
 
 mod cursor;
+mod expression;
 mod measured;
+mod operator;
 mod program;
 mod refusal;
 
