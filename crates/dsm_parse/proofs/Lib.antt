@@ -1,0 +1,4 @@
+pub mod Fronts
+pub mod Good
+pub mod Repeats
+pub mod Lists
