@@ -1,6 +1,6 @@
 -- What a reader has that reads from the left and looks one token ahead. It takes tokens that go on to a value, also where
 -- it refuses; and it does the same before any other tokens that begin with the one that it saw last, also with more levels.
-use Rattle.std.proofs.Common.{◌≡◌, ◌≤◌, ℕ, zero, suc, Bool, true, false, cond, List, [], ◌∷◌, ◌++◌, Option, Some, refl, sym, ap, ◌∙◌, subst, arith, append_assoc}
+use Rattle.std.proofs.Common.{◌≡◌, ◌≤◌, ◌<◌, length, length-append, ℕ, zero, suc, Bool, true, false, cond, List, [], ◌∷◌, ◌++◌, Option, Some, refl, sym, ap, ◌∙◌, subst, arith, append_assoc}
 use Rattle.dsm_syntax.specs.declared.sign.Sign.{Sign}
 use Rattle.dsm_parse.specs.Lexemes.{Lexeme, sign}
 use Rattle.dsm_parse.specs.Reading.{Read, ok, unexpected, too_high, Reader, and_then, look, tail, is_sign, after_sign, ended_by}
@@ -367,3 +367,16 @@ good_sign {A = A} {L = L} {F = F} {P = P} {d = d} {ts = ts} s good = of (is_sign
 -- a last sign
 pub good_end : {A : Type 0} {L : Language A} {F : Follow A} {d : ℕ} {ts : List Lexeme} (s : Sign) (a : A) → L d a (sign s ∷ []) → ((next : Option Lexeme) → F a next) → Good L F (λ m. ended_by s a) d ts
 good_end s a is free = good_sign s (λ rest. good_ok a is (free (look rest)))
+
+-- what is left is no longer than what there was
+pub no_longer : {A : Type 0} {L : Language A} {F : Follow A} {P : ℕ → Reader A} {d : ℕ} {ts : List Lexeme} → Good L F P d ts → (a : A) (rest : List Lexeme) → P d ts ≡ ok a rest → length rest ≤ length ts
+no_longer {L = L} {F = F} {P = P} {d = d} {ts = ts} good a rest e =
+    let g = subst (Outcome L F P d ts) e good.outcome in
+    omega (arith, ap length g.split, length-append g.pre rest)
+
+-- and shorter where something was taken
+pub shorter : {A : Type 0} {L : Language A} {F : Follow A} {P : ℕ → Reader A} {d : ℕ} {ts : List Lexeme} → Good L F P d ts → ((a : A) (w : List Lexeme) → L d a w → 1 ≤ length w)
+    → (a : A) (rest : List Lexeme) → P d ts ≡ ok a rest → length rest < length ts
+shorter {L = L} {F = F} {P = P} {d = d} {ts = ts} good long a rest e =
+    let g = subst (Outcome L F P d ts) e good.outcome in
+    omega (arith, ap length g.split, length-append g.pre rest, long a g.pre g.is)
