@@ -9,3 +9,4 @@ pub mod Tokens
 pub mod Gives
 pub mod Signs
 pub mod Expressions
+pub mod Statements

@@ -84,11 +84,7 @@ fn at_least(
 
 /// Reads a place that has at most so many nodes on a way down.
 #[cycle(expression)]
-pub fn place(
-    alloc: Global,
-    cursor: &mut Cursor<'_>,
-    most: u32,
-) -> Result<Measured<Place>, Refusal>
+pub fn place(alloc: Global, cursor: &mut Cursor<'_>, most: u32) -> Result<Measured<Place>, Refusal>
     requires { most < 2 ^ 28 }
     ensures read { Gives (λ p. view_place p.tree) (reader.place most cursor.old) result cursor.new }
     ensures height { IfOk result (λ p. p.height ≡ height_place (view_place p.tree)) }
@@ -158,11 +154,7 @@ fn stepped(
 
 /// Reads what stands between operators that have two sides.
 #[cycle(expression)]
-fn operand(
-    alloc: Global,
-    cursor: &mut Cursor<'_>,
-    depth: u32,
-) -> Result<Measured<Expr>, Refusal>
+fn operand(alloc: Global, cursor: &mut Cursor<'_>, depth: u32) -> Result<Measured<Expr>, Refusal>
     requires { depth < 2 ^ 28 }
     ensures read { Gives (λ e. view e.tree) (reader.operand depth (below depth) cursor.old) result cursor.new }
     ensures height { IfOk result (λ e. e.height ≡ height (view e.tree)) }

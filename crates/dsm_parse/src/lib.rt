@@ -3,9 +3,15 @@
 
 mod cursor;
 mod expression;
+mod head;
+mod kind;
 mod measured;
 mod operator;
+mod print;
 mod program;
 mod refusal;
+mod simple;
+mod statement;
+mod variable;
 
 pub use program::parse;
