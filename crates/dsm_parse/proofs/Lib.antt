@@ -2,3 +2,5 @@ pub mod Fronts
 pub mod Good
 pub mod Repeats
 pub mod Lists
+pub mod Tables
+pub mod Expressions
