@@ -312,6 +312,9 @@ module _ (d : ℕ) (ih : GoodBelow d) where
   abbrev TurnsTo : Follow Expression
   TurnsTo c next = Follows c next
 
+  of_two : (n : ℕ) → (n ≤ 1 → 2 ≤ n) → 2 ≤ n
+  of_two n h = elim (cases_lt n 2) [ inl lt ↦ h (omega arith) | inr le ↦ le ]
+
   -- what stands before an operator
   record Left (left : Expression) (i : Infix) : Type 0 where
     fits : Fits left
@@ -342,7 +345,7 @@ module _ (d : ℕ) (ih : GoodBelow d) where
       ((ih one).expr 1 (omega arith) rest))))
     where
       tighter : 2 ≤ level left
-      tighter = omega (arith, l.near, l.last)
+      tighter = of_two (level left) l.last
 
   good_assign : (p : Place) (op : AssignOp) (line : ℕ) → Left (at p) (Infix.Assign op) → (ts : List Lexeme)
       → Good (Turned (at p) (sign_at (assign_sign op) line) 0) TurnsTo (λ m. operation m (below m) (Some (Infix.Assign op, line)) (at p)) d ts
@@ -362,7 +365,7 @@ module _ (d : ℕ) (ih : GoodBelow d) where
   goes_on : (left : Expression) (i : Infix) (line : ℕ) → Fits left → infix_tightness left i ≤ level left + 1 → (level left ≤ 1 → infix_tightness left i ≤ level left) → 1 ≤ infix_tightness left i
       → (e : Expression) × (more : List Lexeme) × (spell e ≡ spell left ++ sign_at (infix_sign i) line ∷ more) × Fits e × (level e ≡ infix_level i)
   goes_on left (Infix.Binary op) line fits near last binds = (binary left op line (number (pos 0)), numeral (pos 0) ∷ [], refl, (fits, omega arith, tt, omega (arith, tight op)), refl)
-  goes_on left Infix.Question line fits near last binds = (choice left line (number (pos 0)) (number (pos 0)), numeral (pos 0) ∷ sign Sign.Colon ∷ numeral (pos 0) ∷ [], refl, (fits, omega (arith, last), tt, tt, omega arith), refl)
+  goes_on left Infix.Question line fits near last binds = (choice left line (number (pos 0)) (number (pos 0)), numeral (pos 0) ∷ sign Sign.Colon ∷ numeral (pos 0) ∷ [], refl, (fits, of_two (level left) last, tt, tt, omega arith), refl)
   goes_on (at p) (Infix.Assign op) line fits near last binds = (assign p op line (number (pos 0)), numeral (pos 0) ∷ [], refl, (fits, tt), refl)
   goes_on _ (Infix.Assign op) line fits near last binds = absurd (omega arith)
 
@@ -378,16 +381,16 @@ module _ (d : ℕ) (ih : GoodBelow d) where
       → infix_of (look ts) ≡ Some (i, line) → least < tightness left (look ts)
       → (height left ≤ d → (c : Expression) (rest : List Lexeme) → Fits c → least ≤ level c → height c ≤ suc d → Follows c (look rest) → height left + 1 ≤ height c → Good (Grown least c) (Stops least) (λ m. climb m (below m) m least c) d rest)
       → Good (Grown least left) (Stops least) (λ m. climb m (below m) m least left) d ts
-  good_turn n least left i line ts fits tight low follows next binds others = good_as
+  good_turn n least left i line ts fits reached low follows next binds others = good_as
       (behind (sign_at (infix_sign i) line) (infix_at (look ts) i line next) (λ rest. good_over (sign_at (infix_sign i) line) (height left)
-      (record { value = left; more = []; is = record { is = sym (append-nil (spell left)); fits = (fits, tight); low = low } })
-      (let more = goes_on left i line fits near last (omega arith) in
-      record { token = sign_at (infix_sign i) line; next_is = refl; most = d + height more.0; enough = omega arith; value = more.0; more = more.1; is = record { is = more.2; fits = (more.3, reaches more.4); low = omega arith } })
-      (λ le. good_then (good_operation left i line (record { fits = fits; low = le; near = near; last = last; binds = omega arith }) rest)
-      (λ m c u more k. record { value = c; more = []; is = record { is = k.is ∙ ap (λ l. spell left ++ sign_at (infix_sign i) line ∷ l) (sym (append-nil u)); fits = (k.fits.0, reaches k.fits.1); low = k.low } })
+      (record { value = left; more = []; is = record { is = sym (append-nil (spell left)); fits = (fits, reached); low = low } })
+      (let more = goes_on left i line fits near last some in
+      record { token = sign_at (infix_sign i) line; next_is = refl; most = d + height more.0; enough = omega arith; value = more.0; more = more.1; is = record { is = more.2; fits = (more.3, reaches more.0 more.4); low = omega arith } })
+      (λ le. good_then (good_operation left i line (record { fits = fits; low = le; near = near; last = last; binds = some }) rest)
+      (λ m c u more k. record { value = c; more = []; is = record { is = k.is ∙ ap (λ l. spell left ++ sign_at (infix_sign i) line ∷ l) (sym (append-nil u)); fits = (k.fits.0, reaches c k.fits.1); low = k.low } })
       (λ c u rest at k next. good_weaken
       (λ m e w more h. record { is = h.is ∙ ap (λ l. l ++ w) k.is ∙ append_assoc (spell left) (sign_at (infix_sign i) line ∷ u) w; fits = h.fits; low = h.low }) (λ e next f. f)
-      (others le c rest k.fits.0 (reaches k.fits.1) k.low next k.fits.2)))))
+      (others le c rest k.fits.0 (reaches c k.fits.1) k.low next k.fits.2)))))
       (λ m s more lk. climb_turns m (below m) least left i line s (ap infix_of lk ∙ next) (rw lk binds))
     where
       is_tight : tightness left (look ts) ≡ infix_tightness left i
@@ -399,13 +402,16 @@ module _ (d : ℕ) (ih : GoodBelow d) where
       last : level left ≤ 1 → infix_tightness left i ≤ level left
       last small = omega (arith, is_tight, follows.last small)
 
+      some : 1 ≤ infix_tightness left i
+      some = omega (arith, is_tight, binds)
+
       at_level : (e : Expression) (j : Infix) → infix_tightness e j ≤ infix_level j + 1
       at_level e (Infix.Binary op) = omega arith
       at_level e Infix.Question = omega arith
       at_level e (Infix.Assign op) = assignment_small e
 
-      reaches : {c : Expression} → level c ≡ infix_level i → least ≤ level c
-      reaches {c} e = omega (arith, e, is_tight, binds, at_level left i)
+      reaches : (c : Expression) → level c ≡ infix_level i → least ≤ level c
+      reaches c e = omega (arith, e, is_tight, binds, at_level left i)
 
   good_climb_by : (n : ℕ) → ((least : ℕ) (left : Expression) (i : Infix) (line : ℕ) (ts : List Lexeme) → Fits left → least ≤ level left → height left ≤ suc d → Follows left (look ts) → d + 1 ≤ n + height left
       → infix_of (look ts) ≡ Some (i, line) → least < tightness left (look ts) → Good (Grown least left) (Stops least) (λ m. climb m (below m) m least left) d ts) → GoesOn n
