@@ -4,3 +4,4 @@ pub mod Repeats
 pub mod Lists
 pub mod Tables
 pub mod Expressions
+pub mod Beginnings
