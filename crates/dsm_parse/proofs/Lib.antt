@@ -5,3 +5,4 @@ pub mod Lists
 pub mod Tables
 pub mod Expressions
 pub mod Beginnings
+pub mod Complete

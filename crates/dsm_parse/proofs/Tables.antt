@@ -6,7 +6,7 @@ use Rattle.dsm_syntax.specs.declared.tree.StepOp.{StepOp}
 use Rattle.dsm_syntax.specs.declared.tree.BinaryOp.{BinaryOp}
 use Rattle.dsm_syntax.specs.declared.tree.AssignOp.{AssignOp}
 use Rattle.dsm_syntax.specs.declared.tree.Name.{Name}
-use Rattle.dsm_syntax.specs.Tree.{Expression, number, at, paren, call, unary, prefix, postfix, binary, choice, assign}
+use Rattle.dsm_syntax.specs.Tree.{Place, Expression, at}
 use Rattle.dsm_parse.specs.declared.operator.Infix.{Infix}
 use Rattle.dsm_parse.specs.declared.operator.Lead.{Lead}
 use Rattle.dsm_parse.specs.Lexemes.{Lexeme, named, numeral, sign, sign_at}
@@ -197,3 +197,13 @@ tightness_of_less e f (Some (Infix.Assign op, line)) none = omega arith
 
 pub tightness_less : (e f : Expression) (next : Option Lexeme) → assignment_tightness e ≡ 0 → tightness e next ≤ tightness f next
 tightness_less e f next none = tightness_of_less e f (infix_of next) none
+
+-- behind a place all operators can stand
+tightness_of_most : (p : Place) (e : Expression) (o : Option (Infix × ℕ)) → tightness_of e o ≤ tightness_of (at p) o
+tightness_of_most p e None = omega arith
+tightness_of_most p e (Some (Infix.Binary op, line)) = omega arith
+tightness_of_most p e (Some (Infix.Question, line)) = omega arith
+tightness_of_most p e (Some (Infix.Assign op, line)) = assignment_small e
+
+pub tightness_most : (p : Place) (e : Expression) (next : Option Lexeme) → tightness e next ≤ tightness (at p) next
+tightness_most p e next = tightness_of_most p e (infix_of next)
