@@ -1,5 +1,6 @@
 pub mod Fronts
 pub mod Good
+pub mod Singles
 pub mod Repeats
 pub mod Lists
 pub mod Tables

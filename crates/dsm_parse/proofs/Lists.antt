@@ -1,14 +1,16 @@
 -- Lists parted by commas, and parts that may be absent.
-use Rattle.std.proofs.Common.{◌≡◌, ◌≤◌, ℕ, Bool, true, false, cond, List, [], ◌∷◌, ◌++◌, flat_map, Option, Some, None, IfSome, refl, sym, ap, ◌∙◌, arith, append_assoc}
+use Rattle.std.proofs.Common.{◌≡◌, ◌≤◌, ◌<◌, ℕ, Bool, true, false, cond, List, [], ◌∷◌, ◌++◌, length, flat_map, Option, Some, None, Err, IfSome, refl, sym, ap, ◌∙◌, subst, arith, append_assoc, append-nil}
 use Rattle.std.specs.List.{AllByRecursion}
 use Rattle.dsm_syntax.specs.declared.sign.Sign.{Sign}
 use Rattle.dsm_parse.specs.Lexemes.{Lexeme, sign}
 use Rattle.dsm_parse.specs.Grammar.{spell_more, spell_list, spell_option, Listed}
 use Rattle.dsm_parse.specs.Heights.{highest, height_option}
-use Rattle.dsm_parse.specs.Reading.{ok, Reader, and_then, is_sign, after_sign, more_of, list_of}
-use Rattle.dsm_parse.proofs.Fronts.{Looks, is_sign_look}
-use Rattle.dsm_parse.proofs.Good.{Language, Follow, Free, Spelled, Good, good_ok, good_weaken, good_map, good_next, good_if, good_sign}
-use Rattle.dsm_parse.proofs.Repeats.{Stopped, good_repeated, all_reads, all_low}
+use Rattle.dsm_parse.specs.Reading.{ok, unexpected, Reader, and_then, tail, is_sign, after_sign, gathered, more_of, list_of}
+use Rattle.dsm_parse.specs.declared.refusal.Refusal.{Refusal}
+use Rattle.dsm_parse.specs.Gives.{Gives}
+use Rattle.dsm_parse.proofs.Fronts.{Looks, is_sign_look, of_sign}
+use Rattle.dsm_parse.proofs.Good.{Language, Follow, Free, Spelled, Good, good_ok, good_weaken, good_map, good_next, good_if, good_sign, no_longer}
+use Rattle.dsm_parse.proofs.Repeats.{Stopped, stops, good_repeated, gathers, gathers_none, all_reads, all_low}
 
 -- what a member after its comma is spelled
 abbrev pub spell_after : {A : Type 0} → (A → List Lexeme) → A → List Lexeme
@@ -77,3 +79,28 @@ module _ {A : Type 0} (spell : A → List Lexeme) (Fits : A → Type 0) (height 
       ahead : (all : List A) → N (spell_more spell all ++ rest)
       ahead [] = next
       ahead (b ∷ all) = comma ((spell b ++ spell_more spell all) ++ rest)
+
+-- The loop that gathers the members behind the first one.
+module _ {A : Type 0} {spell : A → List Lexeme} {Fits : A → Type 0} {height : A → ℕ} {F : Follow A} {member : ℕ → Reader A} {d : ℕ}
+    (good : (ts : List Lexeme) → Good (Spelled spell Fits height) F member d ts) where
+  -- a comma and a member
+  pub more_gathers : (taken : List A) (a : A) (ts rest : List Lexeme) → is_sign Sign.Comma ts ≡ true → member d (tail ts) ≡ ok a rest
+      → gathered taken (more_of (member d)) ts ≡ gathered (taken ++ a ∷ []) (more_of (member d)) rest
+  more_gathers taken a ts rest e one =
+      gathers (spell_after spell) Fits height F (is_sign Sign.Comma) (λ m. after_sign Sign.Comma (member m)) (is_sign_look Sign.Comma) refl (λ a f. omega arith) d (λ ts e. good_member good ts)
+      taken a ts rest e (ap (λ b. cond b (member d (tail ts)) (unexpected ts)) e ∙ one)
+
+  pub more_gathers_none : {B C : Type 0} (taken : List A) (ts : List Lexeme) (see : B → A) (see' : C → List A) (why : Refusal) (left : List Lexeme) → is_sign Sign.Comma ts ≡ true
+      → Gives see (member d (tail ts)) (Err why) left → Gives see' (gathered taken (more_of (member d)) ts) (Err why) left
+  more_gathers_none taken ts see see' why left e one =
+      gathers_none (spell_after spell) Fits height F (is_sign Sign.Comma) (λ m. after_sign Sign.Comma (member m)) (is_sign_look Sign.Comma) refl (λ a f. omega arith) d (λ ts e. good_member good ts)
+      taken ts see see' why left e (subst (λ r. Gives see r (Err why) left) (sym (ap (λ b. cond b (member d (tail ts)) (unexpected ts)) e)) one)
+
+pub more_gathered : {A : Type 0} (member : Reader A) (taken : List A) (ts : List Lexeme) → is_sign Sign.Comma ts ≡ false → gathered taken (more_of member) ts ≡ ok taken ts
+more_gathered member taken ts e =
+    ap (λ y. and_then y (λ others. ok (taken ++ others))) (stops (is_sign Sign.Comma) (after_sign Sign.Comma member) (length ts) ts e) ∙ ap (λ l. ok l ts) (append-nil taken)
+
+-- a comma and a member leave less
+pub more_falls : {A : Type 0} {L : Language A} {F : Follow A} {P : ℕ → Reader A} {d : ℕ} (ts : List Lexeme) → Good L F P d (tail ts) → (a : A) (rest : List Lexeme)
+    → is_sign Sign.Comma ts ≡ true → P d (tail ts) ≡ ok a rest → length rest < length ts
+more_falls ts good a rest e one = omega (arith, no_longer good a rest one, ap length (of_sign Sign.Comma ts e))

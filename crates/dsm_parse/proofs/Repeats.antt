@@ -1,11 +1,20 @@
 -- Readers of several values, one after the other.
-use Rattle.std.proofs.Common.{◌≡◌, ◌≤◌, ◌<◌, ℕ, zero, suc, Bool, true, false, List, [], ◌∷◌, ◌++◌, length, flat_map, Option, refl, sym, ap, ◌∙◌, subst, arith, append_assoc, append-nil, length-append}
+use Rattle.std.proofs.Common.{◌≡◌, ◌≤◌, ◌<◌, ℕ, zero, suc, Bool, true, false, List, [], ◌∷◌, ◌++◌, length, flat_map, Option, Err, refl, sym, ap, ◌∙◌, subst, arith, append_assoc, append-nil, length-append}
 use Rattle.std.specs.List.{AllByRecursion}
+use Rattle.dsm_parse.specs.declared.refusal.Refusal.{Refusal}
+use Rattle.dsm_parse.specs.Gives.{Gives}
 use Rattle.dsm_parse.specs.Lexemes.{Lexeme}
 use Rattle.dsm_parse.specs.Heights.{highest}
-use Rattle.dsm_parse.specs.Reading.{Read, ok, unexpected, too_high, Reader, and_then, look, repeated}
+use Rattle.dsm_parse.specs.Reading.{Read, ok, unexpected, too_high, Reader, and_then, look, repeated, gathered}
 use Rattle.dsm_parse.proofs.Fronts.{look_append, Looks}
 use Rattle.dsm_parse.proofs.Good.{Language, Follow, Spelled, Begins, BeginsPast, Takes, Outcome, Good}
+
+-- a refusal stays one
+pub gives_none : {A B C D : Type 0} (read : Read A) (more : A → Reader B) (see : C → A) (see' : D → B) (why : Refusal) (left : List Lexeme)
+    → Gives see read (Err why) left → Gives see' (and_then read more) (Err why) left
+gives_none read more see see' Refusal.Unexpected left h = ap (λ r. and_then r more) h
+gives_none read more see see' Refusal.TooHigh left h = ap (λ r. and_then r more) h
+gives_none read more see see' Refusal.Memory left h = tt
 
 -- nothing comes that goes on
 abbrev pub Stopped : {A : Type 0} → (List Lexeme → Bool) → A → Option Lexeme → Type 0
@@ -14,10 +23,6 @@ Stopped goes_on all next = (r : List Lexeme) → look r ≡ next → goes_on r �
 -- as often as can be
 abbrev pub all_of : {A : Type 0} → (List Lexeme → Bool) → (ℕ → Reader A) → ℕ → Reader (List A)
 all_of goes_on member m tokens = repeated goes_on (member m) (length tokens) tokens
-
--- what comes behind members that were taken
-abbrev pub gathered : {A : Type 0} → List A → Reader (List A) → Reader (List A)
-gathered taken more tokens = and_then (more tokens) (λ others. ok (taken ++ others))
 
 pub stops : {A : Type 0} (goes_on : List Lexeme → Bool) (member : Reader A) (k : ℕ) (ts : List Lexeme) → goes_on ts ≡ false → repeated goes_on member k ts ≡ ok [] ts
 stops goes_on member zero ts e = refl
@@ -242,13 +247,12 @@ module _ {A : Type 0} (spell : A → List Lexeme) (Fits : A → Type 0) (height 
         of (unexpected rest) = refl
         of (too_high rest) = refl
 
-    pub gathers_unexpected : (taken : List A) (ts rest : List Lexeme) → goes_on ts ≡ true → member d ts ≡ unexpected rest → gathered taken (all_of goes_on member d) ts ≡ unexpected rest
-    gathers_unexpected taken ts rest e one =
-        ap (λ y. and_then y (λ others. ok (taken ++ others))) (all_turns ts e ∙ ap (λ y. and_then y (λ a rest. and_then (all_of goes_on member d rest) (λ others. ok (a ∷ others)))) one)
-
-    pub gathers_too_high : (taken : List A) (ts rest : List Lexeme) → goes_on ts ≡ true → member d ts ≡ too_high rest → gathered taken (all_of goes_on member d) ts ≡ too_high rest
-    gathers_too_high taken ts rest e one =
-        ap (λ y. and_then y (λ others. ok (taken ++ others))) (all_turns ts e ∙ ap (λ y. and_then y (λ a rest. and_then (all_of goes_on member d rest) (λ others. ok (a ∷ others)))) one)
+    pub gathers_none : {B C : Type 0} (taken : List A) (ts : List Lexeme) (see : B → A) (see' : C → List A) (why : Refusal) (left : List Lexeme) → goes_on ts ≡ true
+        → Gives see (member d ts) (Err why) left → Gives see' (gathered taken (all_of goes_on member d) ts) (Err why) left
+    gathers_none taken ts see see' why left e one =
+        subst (λ r. Gives see' r (Err why) left) (sym (ap (λ y. and_then y (λ others. ok (taken ++ others))) (all_turns ts e)))
+        (gives_none (and_then (member d ts) (λ a rest. and_then (all_of goes_on member d rest) (λ others. ok (a ∷ others)))) (λ others. ok (taken ++ others)) (λ all. all) see' why left
+        (gives_none (member d ts) (λ a rest. and_then (all_of goes_on member d rest) (λ others. ok (a ∷ others))) see (λ all. all) why left one))
 
   pub gathered_all : (taken : List A) (d : ℕ) (ts : List Lexeme) → goes_on ts ≡ false → gathered taken (all_of goes_on member d) ts ≡ ok taken ts
   gathered_all taken d ts e =
