@@ -2,9 +2,10 @@
 -- it refuses; and it does the same before any other tokens that begin with the one that it saw last, also with more levels.
 use Rattle.std.proofs.Common.{◌≡◌, ◌≤◌, ◌<◌, length, length-append, ℕ, zero, suc, Bool, true, false, cond, List, [], ◌∷◌, ◌++◌, Option, Some, refl, sym, ap, ◌∙◌, subst, arith, append_assoc}
 use Rattle.dsm_syntax.specs.declared.sign.Sign.{Sign}
-use Rattle.dsm_parse.specs.Lexemes.{Lexeme, sign}
-use Rattle.dsm_parse.specs.Reading.{Read, ok, unexpected, too_high, Reader, and_then, look, tail, is_sign, after_sign, ended_by}
-use Rattle.dsm_parse.proofs.Fronts.{look_append, Looks, is_sign_look, of_sign, is_that_sign}
+use Rattle.dsm_syntax.specs.declared.word.Word.{Word}
+use Rattle.dsm_parse.specs.Lexemes.{Lexeme, sign, word}
+use Rattle.dsm_parse.specs.Reading.{Read, ok, unexpected, too_high, Reader, and_then, look, tail, is_sign, is_word, after_sign, ended_by}
+use Rattle.dsm_parse.proofs.Fronts.{look_append, Looks, is_sign_look, of_sign, is_that_sign, is_word_look, of_word, is_that_word}
 
 -- the values of at most a height, with their tokens
 abbrev pub Language : Type 0 → Type 1
@@ -363,6 +364,30 @@ good_sign {A = A} {L = L} {F = F} {P = P} {d = d} {ts = ts} s good = of (is_sign
         let some = begun_of (good []) in
         good_as (good_unexpected (record { value = some.value; more = sign s ∷ some.more; is = some.is }))
         (λ m r le lk. ap (λ b. cond b (P m (tail r)) (unexpected r)) (is_sign_look s r ts lk ∙ e))
+
+-- behind a word that has to come
+pub good_word : {A : Type 0} {L : Language A} {F : Follow A} {P : ℕ → Reader A} {d : ℕ} {ts : List Lexeme} (w : Word) →
+    ((rest : List Lexeme) → Good (λ m a v. L m a (word w ∷ v)) F P d rest) → Good L F (λ m s. cond (is_word w s) (P m (tail s)) (unexpected s)) d ts
+good_word {A = A} {L = L} {F = F} {P = P} {d = d} {ts = ts} w good = of (is_word w ts) refl
+  where
+    of : (b : Bool) → is_word w ts ≡ b → Good L F (λ m s. cond (is_word w s) (P m (tail s)) (unexpected s)) d ts
+    of true e = subst (Good L F (λ m s. cond (is_word w s) (P m (tail s)) (unexpected s)) d) (sym (of_word w ts e))
+        (good_after (word w) (good (tail ts)) (λ m r le. ap (λ b. cond b (P m r) (unexpected (word w ∷ r))) (is_that_word w r)))
+    of false e =
+        let some = begun_of (good []) in
+        good_as (good_unexpected (record { value = some.value; more = word w ∷ some.more; is = some.is }))
+        (λ m r le lk. ap (λ b. cond b (P m (tail r)) (unexpected r)) (is_word_look w r ts lk ∙ e))
+
+-- behind a sign or a word that comes
+pub good_behind_sign : {A : Type 0} {L : Language A} {F : Follow A} {P : ℕ → Reader A} {d : ℕ} {ts : List Lexeme} (s : Sign) → is_sign s ts ≡ true
+    → Good (λ m a w. L m a (sign s ∷ w)) F P d (tail ts) → Good L F (λ m r. P m (tail r)) d ts
+good_behind_sign {L = L} {F = F} {P = P} {d = d} {ts = ts} s e good =
+    subst (Good L F (λ m r. P m (tail r)) d) (sym (of_sign s ts e)) (good_after (sign s) good (λ m r le. refl))
+
+pub good_behind_word : {A : Type 0} {L : Language A} {F : Follow A} {P : ℕ → Reader A} {d : ℕ} {ts : List Lexeme} (w : Word) → is_word w ts ≡ true
+    → Good (λ m a v. L m a (word w ∷ v)) F P d (tail ts) → Good L F (λ m r. P m (tail r)) d ts
+good_behind_word {L = L} {F = F} {P = P} {d = d} {ts = ts} w e good =
+    subst (Good L F (λ m r. P m (tail r)) d) (sym (of_word w ts e)) (good_after (word w) good (λ m r le. refl))
 
 -- a last sign
 pub good_end : {A : Type 0} {L : Language A} {F : Follow A} {d : ℕ} {ts : List Lexeme} (s : Sign) (a : A) → L d a (sign s ∷ []) → ((next : Option Lexeme) → F a next) → Good L F (λ m. ended_by s a) d ts

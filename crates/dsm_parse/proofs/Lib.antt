@@ -3,3 +3,7 @@ pub mod Good
 pub mod Singles
 pub mod Repeats
 pub mod Lists
+pub mod Tables
+pub mod Expressions
+pub mod Beginnings
+pub mod Complete

@@ -5,7 +5,7 @@ use Rattle.dsm_parse.specs.declared.refusal.Refusal.{Refusal}
 use Rattle.dsm_parse.specs.Gives.{Gives}
 use Rattle.dsm_parse.specs.Lexemes.{Lexeme}
 use Rattle.dsm_parse.specs.Heights.{highest}
-use Rattle.dsm_parse.specs.Reading.{Read, ok, unexpected, too_high, Reader, and_then, look, repeated}
+use Rattle.dsm_parse.specs.Reading.{Read, ok, unexpected, too_high, Reader, and_then, look, repeated, gathered}
 use Rattle.dsm_parse.proofs.Fronts.{look_append, Looks}
 use Rattle.dsm_parse.proofs.Good.{Language, Follow, Spelled, Begins, BeginsPast, Takes, Outcome, Good}
 
@@ -23,10 +23,6 @@ Stopped goes_on all next = (r : List Lexeme) → look r ≡ next → goes_on r �
 -- as often as can be
 abbrev pub all_of : {A : Type 0} → (List Lexeme → Bool) → (ℕ → Reader A) → ℕ → Reader (List A)
 all_of goes_on member m tokens = repeated goes_on (member m) (length tokens) tokens
-
--- what comes behind members that were taken
-abbrev pub gathered : {A : Type 0} → List A → Reader (List A) → Reader (List A)
-gathered taken more tokens = and_then (more tokens) (λ others. ok (taken ++ others))
 
 pub stops : {A : Type 0} (goes_on : List Lexeme → Bool) (member : Reader A) (k : ℕ) (ts : List Lexeme) → goes_on ts ≡ false → repeated goes_on member k ts ≡ ok [] ts
 stops goes_on member zero ts e = refl

@@ -1,5 +1,5 @@
 -- Reading from the left. A reader of what is at most so high gets that height as a number first.
-use Rattle.std.specs.Prelude.{ℕ, zero, suc, Bool, false, if◌then◌else◌, List, [], ◌∷◌, length, Option, slice_get}
+use Rattle.std.specs.Prelude.{ℕ, zero, suc, Bool, false, if◌then◌else◌, List, [], ◌∷◌, ◌++◌, length, Option, slice_get}
 use denote.Enum.Bare.{sameb}
 use Rattle.dsm_syntax.specs.contracts.sign.Sign as sign_type
 use Rattle.dsm_syntax.specs.contracts.word.Word as word_type
@@ -57,6 +57,10 @@ repeated goes_on member (suc n) tokens =
     if goes_on tokens
     then and_then (member tokens) (λ a rest. and_then (repeated goes_on member n rest) (λ others. ok (a ∷ others)))
     else ok [] tokens
+
+-- what comes behind members that were taken
+abbrev pub gathered : {A : Type 0} → List A → Reader (List A) → Reader (List A)
+gathered taken more tokens = and_then (more tokens) (λ others. ok (taken ++ others))
 
 -- the members of a list behind the first one, each after a comma; each takes a token, so there are no more of them
 abbrev pub more_of : {A : Type 0} → Reader A → Reader (List A)

@@ -241,7 +241,8 @@ fn arguments(
     cursor: &mut Cursor<'_>,
     depth: u32,
 ) -> Result<Measured<Vec<Expr>>, Refusal>
-    requires { depth < 2 ^ 28 }
+    requires depth { depth < 2 ^ 28 }
+    requires over { 1 ≤ depth }
     ensures read { Gives (λ list. map view list.tree.items) (list_of ((below depth).at_least 0) cursor.old) result cursor.new }
     ensures height { IfOk result (λ list. list.height ≡ height_arguments (expressions (map view list.tree.items))) }
     ensures low { IfOk result (λ list. list.height ≤ depth) }
