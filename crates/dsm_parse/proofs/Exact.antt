@@ -44,8 +44,8 @@ module _ (ts pre rest : List Lexeme) (split : ts ≡ pre ++ rest) where
   at : slice_get ts (length pre) ≡ look rest
   at = ap (λ l. slice_get l (length pre)) split ∙ get_behind pre rest
 
-  begun : Begins Programs 64 pre → IsBegun ts (length pre)
-  begun b = (
+  begun : (d : ℕ) → d ≤ 64 → Begins Programs d pre → IsBegun ts (length pre)
+  begun d le b = (
     b.value,
     slice_get b.more 0,
     record {
@@ -63,29 +63,29 @@ module _ (ts pre rest : List Lexeme) (split : ts ≡ pre ++ rest) where
   never all most refuses low differs again on =
       differs on.more (sym (again on.more (on.next_is ∙ at)) ∙ ap (items most) (sym (on.begins ∙ ap (λ l. l ++ on.more) front)) ∙ items_read most all on.program low)
 
-pub exact : (ts : List Lexeme) → IsExact ts (items 64 ts)
-exact ts = of (items 64 ts) (good_items 64 (omega arith) ts).outcome
+pub exact : (d : ℕ) → d ≡ 64 → (ts : List Lexeme) → IsExact ts (items d ts)
+exact d e ts = of (items d ts) (good_items d (omega arith) ts).outcome
   where
-    of : (r : Read (List Item)) → Outcome Programs (Stopped goes_on) items 64 ts r → IsExact ts r
+    of : (r : Read (List Item)) → Outcome Programs (Stopped goes_on) items d ts r → IsExact ts r
     of (ok all rest) g = record {
       spelled = g.is.is ∙ sym (append-nil g.pre) ∙ ap (λ l. g.pre ++ l) (sym (none_left rest (g.next rest refl))) ∙ sym g.split;
       fits = g.is.fits;
-      low = g.is.low;
+      low = omega (arith, g.is.low);
     }
     of (unexpected rest) g = (
       length g.pre,
       placed ts g.pre rest g.split,
       record {
-        begun = begun ts g.pre rest g.split g.begun;
-        never = λ all. never ts g.pre rest g.split all (max 64 (height_program all)) unexpected (omega arith) (λ r e. cc)
-            (λ r lk. g.again (max 64 (height_program all)) r (omega arith) lk);
+        begun = begun ts g.pre rest g.split d (omega arith) g.begun;
+        never = λ all. never ts g.pre rest g.split all (max d (height_program all)) unexpected (omega arith) (λ r e. cc)
+            (λ r lk. g.again (max d (height_program all)) r (omega arith) lk);
       },
     )
     of (too_high rest) g = (
       length g.pre,
       placed ts g.pre rest g.split,
       record {
-        begun = begun ts g.pre rest g.split g.begun;
+        begun = begun ts g.pre rest g.split d (omega arith) g.begun;
         goes_on = let p = g.past in (
           p.value,
           record {
@@ -97,18 +97,21 @@ exact ts = of (items 64 ts) (good_items 64 (omega arith) ts).outcome
         );
         high = λ all on. elim (cases_lt 64 (height_program all)) [
           | inl less ↦ less
-          | inr low ↦ absurd (never ts g.pre rest g.split all 64 too_high low (λ r e. cc) (λ r lk. g.again r lk) on)
+          | inr low ↦ absurd (never ts g.pre rest g.split all d too_high (omega arith) (λ r e. cc) (λ r lk. g.again r lk) on)
         ];
       },
     )
 
 -- Programs and refusals exclude one another.
 
+read_again : (d : ℕ) (ts : List Lexeme) (a : List Item) → IsProgramOf ts a → 64 ≤ d → items d ts ≡ ok a []
+read_again d ts a p le = ap (items d) (sym p.spelled) ∙ items_read d a p.fits (omega (arith, p.low))
+
 pub one_program : (ts : List Lexeme) (a b : List Item) → IsProgramOf ts a → IsProgramOf ts b → a ≡ b
-one_program ts a b p q =
-    let read : items 64 ts ≡ ok a [] = ap (items 64) (sym p.spelled) ∙ items_read 64 a p.fits p.low in
-    let again : items 64 ts ≡ ok b [] = ap (items 64) (sym q.spelled) ∙ items_read 64 b q.fits q.low in
-    cc
+one_program ts a b p q = of 64 (omega arith)
+  where
+    of : (d : ℕ) → 64 ≤ d → a ≡ b
+    of d le = let x = read_again d ts a p le in let y = read_again d ts b q le in cc
 
 get_dropped : (ts : List Lexeme) (place : ℕ) → slice_get (drop place ts) 0 ≡ slice_get ts place
 get_dropped [] zero = refl

@@ -3,6 +3,10 @@ pub mod Good
 pub mod Singles
 pub mod Repeats
 pub mod Lists
+pub mod Tables
+pub mod Expressions
+pub mod Beginnings
+pub mod Complete
 pub mod Bodies
 pub mod Declarations
 pub mod Bindings

@@ -1,5 +1,6 @@
 //! Functions.
 
+ghost use Rattle.std.specs.Prelude.{◌<◌, ◌^◌};
 ghost use Rattle.dsm_syntax.specs.Views.{view_item, view_params};
 ghost use Rattle.dsm_parse.specs.Gives.{Gives};
 ghost use Rattle.dsm_parse.specs.Reading.{list_of};
@@ -56,6 +57,7 @@ pub fn function(
     returns: Returns,
     name: Name,
 ) -> Result<Item, Refusal>
+    requires { most < 2 ^ 28 }
     ensures { Gives view_item (r.function_of most returns name cursor.old) result cursor.new }
 {
     cursor.expect(Sign::ParenOpen)?;

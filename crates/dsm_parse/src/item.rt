@@ -1,6 +1,6 @@
 //! Items of a program.
 
-ghost use Rattle.std.specs.Prelude.{◌≤◌};
+ghost use Rattle.std.specs.Prelude.{◌≤◌, ◌<◌, ◌^◌};
 ghost use Rattle.dsm_syntax.specs.Views.{view_item, view_items};
 ghost use Rattle.dsm_parse.specs.Gives.{Gives};
 ghost use Rattle.dsm_parse.specs.Items as r;
@@ -15,6 +15,7 @@ use std::alloc::Global;
 
 /// Data or a function, behind the word `int`.
 fn int_item(alloc: Global, cursor: &mut Cursor<'_>, most: u32) -> Result<Item, Refusal>
+    requires { most < 2 ^ 28 }
     ensures { Gives view_item (r.int_item most cursor.old) result cursor.new }
 {
     let name = cursor.name(alloc)?;
@@ -27,6 +28,7 @@ fn int_item(alloc: Global, cursor: &mut Cursor<'_>, most: u32) -> Result<Item, R
 
 /// A function, behind the word `void`.
 fn void_item(alloc: Global, cursor: &mut Cursor<'_>, most: u32) -> Result<Item, Refusal>
+    requires { most < 2 ^ 28 }
     ensures { Gives view_item (r.void_item most cursor.old) result cursor.new }
 {
     let name = cursor.name(alloc)?;
@@ -40,6 +42,7 @@ fn declaration(
     most: u32,
     word: Word,
 ) -> Result<Item, Refusal>
+    requires { most < 2 ^ 28 }
     ensures { Gives view_item (r.declaration most word cursor.old) result cursor.new }
 {
     match word {
@@ -69,6 +72,7 @@ fn declaration(
 
 /// An item, with a body of at most so many nodes on a way down.
 fn item(alloc: Global, cursor: &mut Cursor<'_>, most: u32) -> Result<Item, Refusal>
+    requires { most < 2 ^ 28 }
     ensures { Gives view_item (r.item most cursor.old) result cursor.new }
 {
     if let Some((word, line)) = cursor.placed_word() {
@@ -82,7 +86,8 @@ fn item(alloc: Global, cursor: &mut Cursor<'_>, most: u32) -> Result<Item, Refus
 
 /// All items up to the end of the tokens.
 pub fn items(alloc: Global, cursor: &mut Cursor<'_>, most: u32) -> Result<Vec<Item>, Refusal>
-    requires { 1 ≤ most }
+    requires some { 1 ≤ most }
+    requires fits { most < 2 ^ 28 }
     ensures { Gives (λ all. view_items all.items) (r.items most cursor.old) result cursor.new }
 {
     let mut all = Vec::new(alloc);

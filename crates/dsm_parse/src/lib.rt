@@ -4,11 +4,18 @@
 mod binding;
 mod cursor;
 mod declarator;
+mod expression;
 mod function;
+mod head;
 mod item;
+mod kind;
 mod measured;
+mod operator;
+mod print;
 mod program;
 mod refusal;
+mod simple;
 mod statement;
+mod variable;
 
 pub use program::parse;
