@@ -15,3 +15,4 @@ pub mod Items
 pub mod Spellings
 pub mod Exact
 pub mod Soundness
+pub mod Whole
