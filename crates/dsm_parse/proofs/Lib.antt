@@ -7,3 +7,5 @@ pub mod Tables
 pub mod Expressions
 pub mod Beginnings
 pub mod Complete
+pub mod Values
+pub mod Firsts
