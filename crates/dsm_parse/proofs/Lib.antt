@@ -7,3 +7,4 @@ pub mod Tables
 pub mod Expressions
 pub mod Beginnings
 pub mod Complete
+pub mod Turns

@@ -1,6 +1,7 @@
 //! Expressions and places.
 
 ghost use Rattle.std.specs.Prelude.{◌≡◌, ◌+◌, ◌≤◌, ◌<◌, ◌^◌, if◌then◌else◌, map, IfOk, OnOk, OnErr};
+ghost use Rattle.dsm_syntax.specs.Tree as tree;
 ghost use Rattle.dsm_syntax.specs.Views.{view, view_place};
 ghost use Rattle.dsm_parse.specs.Heights.{height, height_place, height_arguments};
 ghost use Rattle.dsm_parse.specs.Reading.{tail, list_of};
@@ -84,11 +85,7 @@ fn at_least(
 
 /// Reads a place that has at most so many nodes on a way down.
 #[cycle(expression)]
-pub fn place(
-    alloc: Global,
-    cursor: &mut Cursor<'_>,
-    most: u32,
-) -> Result<Measured<Place>, Refusal>
+pub fn place(alloc: Global, cursor: &mut Cursor<'_>, most: u32) -> Result<Measured<Place>, Refusal>
     requires { most < 2 ^ 28 }
     ensures read { Gives (λ p. view_place p.tree) (reader.place most cursor.old) result cursor.new }
     ensures height { IfOk result (λ p. p.height ≡ height_place (view_place p.tree)) }
@@ -158,11 +155,7 @@ fn stepped(
 
 /// Reads what stands between operators that have two sides.
 #[cycle(expression)]
-fn operand(
-    alloc: Global,
-    cursor: &mut Cursor<'_>,
-    depth: u32,
-) -> Result<Measured<Expr>, Refusal>
+fn operand(alloc: Global, cursor: &mut Cursor<'_>, depth: u32) -> Result<Measured<Expr>, Refusal>
     requires { depth < 2 ^ 28 }
     ensures read { Gives (λ e. view e.tree) (reader.operand depth (below depth) cursor.old) result cursor.new }
     ensures height { IfOk result (λ e. e.height ≡ height (view e.tree)) }
@@ -209,6 +202,13 @@ fn operand(
     }
 }
 
+/// A call of a function with these arguments.
+fn call(name: Name, list: Vec<Expr>) -> Expr
+    ensures { view result ≡ tree.call name (expressions (map view list.items)) }
+{
+    Expr::Call(name, list)
+}
+
 /// Goes on behind a name that an expression begins with.
 #[cycle(expression)]
 fn named(
@@ -230,15 +230,15 @@ fn named(
     if cursor.is_sign(Sign::ParenClose) {
         cursor.skip();
         return Ok(Measured {
-            tree: Expr::Call(name, Vec::new(alloc)),
+            tree: call(name, Vec::new(alloc)),
             height: 2,
         });
     }
     let Measured { tree, height } = arguments(alloc, cursor, depth)?;
     cursor.expect(Sign::ParenClose)?;
     Ok(Measured {
-        tree: Expr::Call(name, tree),
-        height: height + 1,
+        tree: call(name, tree),
+        height: height.max(1) + 1,
     })
 }
 
