@@ -7,5 +7,6 @@ pub mod Tables
 pub mod Expressions
 pub mod Beginnings
 pub mod Complete
+pub mod Turns
 pub mod Values
 pub mod Firsts
