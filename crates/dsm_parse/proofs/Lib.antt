@@ -10,3 +10,10 @@ pub mod Complete
 pub mod Turns
 pub mod Values
 pub mod Firsts
+pub mod Variables
+pub mod Heads
+pub mod Simples
+pub mod Branches
+pub mod Blocks
+pub mod Statements
+pub mod Bodies
