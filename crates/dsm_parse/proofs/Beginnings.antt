@@ -1,5 +1,5 @@
 -- With which tokens expressions begin.
-use Rattle.std.proofs.Common.{◌≡◌, ◌≤◌, ℕ, ◌+◌, pos, Bool, true, false, List, [], ◌∷◌, ◌++◌, length, Option, Some, None, refl, sym, ap, ◌∙◌, arith}
+use Rattle.std.proofs.Common.{◌≡◌, ◌≤◌, pos, Bool, true, false, List, [], ◌∷◌, ◌++◌, length, Option, Some, None, refl, sym, ap, ◌∙◌, arith}
 use Rattle.dsm_syntax.specs.declared.sign.Sign.{Sign}
 use Rattle.dsm_syntax.specs.declared.word.Word.{Word}
 use Rattle.dsm_syntax.specs.declared.tree.Name.{Name}
@@ -8,8 +8,7 @@ use Rattle.dsm_parse.specs.declared.operator.Lead.{Lead}
 use Rattle.dsm_parse.specs.Lexemes.{Lexeme, named, numeral, quoted, word, sign, word_at, sign_at}
 use Rattle.dsm_parse.specs.Operators.{unary_sign, step_sign, binary_sign, assign_sign}
 use Rattle.dsm_parse.specs.Grammar.{spell_place, spell, Fits}
-use Rattle.dsm_parse.specs.Heights.{height}
-use Rattle.dsm_parse.specs.Reading.{Read, unexpected, too_high, look, tail, is_sign, is_word}
+use Rattle.dsm_parse.specs.Reading.{unexpected, too_high, look, tail, is_sign, is_word}
 use Rattle.dsm_parse.specs.Tokens.{is_name, is_string, plain_word, placed_word}
 use Rattle.dsm_parse.specs.Signs.{lead, is_lead, begins_expression}
 use Rattle.dsm_parse.specs.Expressions.{expression, place, none_fits}

@@ -1,24 +1,23 @@
 -- Each expression and each place that the grammar has is read from its spelling.
-use Rattle.std.proofs.Common.{◌≡◌, ◌≤◌, ◌<◌, ℕ, zero, suc, ◌+◌, max, Bool, true, false, cond, List, [], ◌∷◌, ◌++◌, Option, Some, None, refl, sym, ap, ◌∙◌, subst, arith, append_assoc}
+use Rattle.std.proofs.Common.{◌≡◌, ◌≤◌, ◌<◌, ℕ, zero, suc, ◌+◌, max, false, cond, List, [], ◌∷◌, ◌++◌, Option, Some, None, refl, ap, ◌∙◌, subst, arith, append_assoc}
 use Rattle.std.specs.List.{AllByRecursion}
 use Rattle.std.proofs.lemmas.Bool.{le-ltb}
 use Rattle.dsm_syntax.specs.declared.sign.Sign.{Sign}
 use Rattle.dsm_syntax.specs.declared.tree.Name.{Name}
-use Rattle.dsm_syntax.specs.declared.tree.StepOp.{StepOp}
 use Rattle.dsm_syntax.specs.declared.tree.BinaryOp.{BinaryOp}
 use Rattle.dsm_syntax.specs.declared.tree.AssignOp.{AssignOp}
 use Rattle.dsm_syntax.specs.Tree.{Place, single, element, Expression, number, at, paren, call, unary, prefix, postfix, binary, choice, assign, Expressions, nil, cons}
 use Rattle.dsm_parse.specs.declared.operator.Infix.{Infix}
-use Rattle.dsm_parse.specs.Lexemes.{Lexeme, named, numeral, sign, sign_at}
+use Rattle.dsm_parse.specs.Lexemes.{Lexeme, sign, sign_at}
 use Rattle.dsm_parse.specs.Operators.{unary_sign, step_sign, binary_sign, assign_sign, binary_level}
-use Rattle.dsm_parse.specs.Grammar.{spell_place, spell, spell_arguments, spell_more, spell_list, Listed, level, FitsPlace, Fits, FitArguments}
-use Rattle.dsm_parse.specs.Heights.{height_place, height, height_arguments, highest}
-use Rattle.dsm_parse.specs.Reading.{Read, ok, unexpected, too_high, Reader, and_then, look, tail, is_sign, after_sign, ended_by, list_of}
-use Rattle.dsm_parse.specs.Signs.{lead, step_of, infix_of, infix_tightness, tightness_of, tightness, begins_expression}
-use Rattle.dsm_parse.specs.Expressions.{expressions, over, place_behind, place_at, stepped_by, stepped, arguments, named_behind, operand_by, operand, operation, climb, at_least, below, expression, place}
+use Rattle.dsm_parse.specs.Grammar.{spell_place, spell, spell_arguments, spell_more, spell_list, level, FitsPlace, Fits, FitArguments}
+use Rattle.dsm_parse.specs.Heights.{height_place, height, height_arguments}
+use Rattle.dsm_parse.specs.Reading.{ok, too_high, Reader, and_then, look, tail, is_sign, after_sign, ended_by, list_of}
+use Rattle.dsm_parse.specs.Signs.{step_of, infix_of, infix_tightness, tightness_of, tightness, begins_expression}
+use Rattle.dsm_parse.specs.Expressions.{expressions, over, place_behind, place_at, stepped_by, stepped, arguments, operand_by, operand, operation, climb, at_least, below, expression, place}
 use Rattle.dsm_parse.proofs.Lists.{list_reads}
 use Rattle.dsm_parse.proofs.Tables.{infix_sign, infix_of_sign, unary_lead, step_lead, step_of_sign, loose, tight, tightness_small, tightness_most}
-use Rattle.dsm_parse.proofs.Expressions.{Tight, height_pos, height_place_pos, spell_expressions, height_expressions, climb_stops, climb_turns}
+use Rattle.dsm_parse.proofs.Expressions.{height_pos, height_place_pos, spell_expressions, height_expressions, climb_stops, climb_turns}
 use Rattle.dsm_parse.proofs.Beginnings.{spell_begins, no_sign}
 
 -- What may come behind an expression.
@@ -151,7 +150,7 @@ module _ (d : ℕ) (ih : CompleteBelow d) where
       let more = λ (list : List Expression). ended_by Sign.ParenClose (call name (expressions list)) in
       let spelled : (spell_arguments (expressions all) ++ sign Sign.ParenClose ∷ []) ++ rest ≡ tokens = append_assoc (spell_arguments (expressions all)) (sign Sign.ParenClose ∷ []) rest ∙ ap (λ l. l ++ sign Sign.ParenClose ∷ rest) (spell_expressions all) in
       let begun : is_sign Sign.ParenClose tokens ≡ false =
-          no_sign Sign.ParenClose tokens refl (ap (λ l. begins_expression (look l)) (append_assoc (spell e) (spell_more spell list) (sign Sign.ParenClose ∷ rest)) ∙ spell_begins e (spell_more spell list ++ sign Sign.ParenClose ∷ rest)) in
+      no_sign Sign.ParenClose tokens refl (ap (λ l. begins_expression (look l)) (append_assoc (spell e) (spell_more spell list) (sign Sign.ParenClose ∷ rest)) ∙ spell_begins e (spell_more spell list ++ sign Sign.ParenClose ∷ rest)) in
       ap (arguments d (below d) name) spelled
       ∙ ap (λ b. cond b (ok (call name nil) (tail tokens)) (and_then (list_of ((below d).at_least 0) tokens) more)) begun
       ∙ ap (λ r. and_then r more) (list_reads spell Fits height Ends d ((below d).at_least 0)

@@ -7,6 +7,15 @@ pub mod Tables
 pub mod Expressions
 pub mod Beginnings
 pub mod Complete
+pub mod Turns
+pub mod Values
+pub mod Firsts
+pub mod Variables
+pub mod Heads
+pub mod Simples
+pub mod Branches
+pub mod Blocks
+pub mod Statements
 pub mod Bodies
 pub mod Declarations
 pub mod Bindings

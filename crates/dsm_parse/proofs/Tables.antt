@@ -1,5 +1,5 @@
 -- Operators and their signs.
-use Rattle.std.proofs.Common.{◌≡◌, ◌≤◌, ◌+◌, ℕ, Option, Some, None, refl, sym, ap, ◌∙◌, arith}
+use Rattle.std.proofs.Common.{◌≡◌, ◌≤◌, ℕ, Option, Some, None, refl, ap, ◌∙◌, arith}
 use Rattle.dsm_syntax.specs.declared.sign.Sign.{Sign}
 use Rattle.dsm_syntax.specs.declared.tree.UnaryOp.{UnaryOp}
 use Rattle.dsm_syntax.specs.declared.tree.StepOp.{StepOp}
@@ -11,7 +11,7 @@ use Rattle.dsm_parse.specs.declared.operator.Infix.{Infix}
 use Rattle.dsm_parse.specs.declared.operator.Lead.{Lead}
 use Rattle.dsm_parse.specs.Lexemes.{Lexeme, named, numeral, sign, sign_at}
 use Rattle.dsm_parse.specs.Operators.{unary_sign, step_sign, binary_sign, assign_sign, binary_level}
-use Rattle.dsm_parse.specs.Signs.{step_op, lead_sign, lead, infix_op, placed, step_of, infix_of, assignment_tightness, infix_tightness, tightness_of, tightness}
+use Rattle.dsm_parse.specs.Signs.{step_op, lead_sign, lead, infix_op, placed, step_of, infix_of, assignment_tightness, tightness_of, tightness}
 
 abbrev pub infix_sign : Infix → Sign
 infix_sign (Infix.Binary op) = binary_sign op

@@ -1,5 +1,5 @@
 -- What a token stands for, where an expression may begin and behind an operand.
-use Rattle.std.specs.Prelude.{ℕ, ◌+◌, Bool, true, false, not, Option, Some, None}
+use Rattle.std.specs.Prelude.{ℕ, ◌+◌, Bool, true, false, Option, Some, None}
 use Rattle.dsm_syntax.specs.declared.sign.Sign.{Sign}
 use Rattle.dsm_syntax.specs.declared.tree.UnaryOp.{UnaryOp}
 use Rattle.dsm_syntax.specs.declared.tree.StepOp.{StepOp}

@@ -1,6 +1,7 @@
 //! Expressions and places.
 
 ghost use Rattle.std.specs.Prelude.{◌≡◌, ◌+◌, ◌≤◌, ◌<◌, ◌^◌, if◌then◌else◌, map, IfOk, OnOk, OnErr};
+ghost use Rattle.dsm_syntax.specs.Tree as tree;
 ghost use Rattle.dsm_syntax.specs.Views.{view, view_place};
 ghost use Rattle.dsm_parse.specs.Heights.{height, height_place, height_arguments};
 ghost use Rattle.dsm_parse.specs.Reading.{tail, list_of};
@@ -201,6 +202,13 @@ fn operand(alloc: Global, cursor: &mut Cursor<'_>, depth: u32) -> Result<Measure
     }
 }
 
+/// A call of a function with these arguments.
+fn call(name: Name, list: Vec<Expr>) -> Expr
+    ensures { view result ≡ tree.call name (expressions (map view list.items)) }
+{
+    Expr::Call(name, list)
+}
+
 /// Goes on behind a name that an expression begins with.
 #[cycle(expression)]
 fn named(
@@ -222,15 +230,15 @@ fn named(
     if cursor.is_sign(Sign::ParenClose) {
         cursor.skip();
         return Ok(Measured {
-            tree: Expr::Call(name, Vec::new(alloc)),
+            tree: call(name, Vec::new(alloc)),
             height: 2,
         });
     }
     let Measured { tree, height } = arguments(alloc, cursor, depth)?;
     cursor.expect(Sign::ParenClose)?;
     Ok(Measured {
-        tree: Expr::Call(name, tree),
-        height: height + 1,
+        tree: call(name, tree),
+        height: height.max(1) + 1,
     })
 }
 
