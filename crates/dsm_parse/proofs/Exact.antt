@@ -54,7 +54,7 @@ module _ (ts pre rest : List Lexeme) (split : ts ≡ pre ++ rest) where
       begins = b.is.is ∙ ap (λ l. l ++ b.more) (sym front);
       next_is = refl;
     },
-    b.is.low,
+    omega (arith, b.is.low),
   )
 
   -- a program that goes on so would be read

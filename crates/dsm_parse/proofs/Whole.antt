@@ -1,5 +1,5 @@
 -- What a reading tells of a program's tokens.
-use Rattle.std.proofs.Common.{◌≡◌, ◌≢◌, ◌≤◌, ◌<◌, ◌+◌, ◌-◌, ◌⊎◌, inl, inr, ℕ, zero, suc, min, List, [], ◌∷◌, length, get_or, map, refl, sym, ap, ◌∙◌, subst, arith}
+use Rattle.std.proofs.Common.{◌≡◌, ◌≢◌, ◌≤◌, ◌<◌, ◌+◌, ◌-◌, ◌⊎◌, inl, inr, ℕ, zero, suc, min, List, [], ◌∷◌, length, get_or, Err, refl, sym, ap, ◌∙◌, subst, arith}
 use Rattle.std.proofs.lemmas.List.{length-map}
 use Rattle.std.proofs.lemmas.Bool.{cases_lt}
 use Rattle.dsm_syntax.specs.declared.errors.ProgErr.{ProgErr}
@@ -7,6 +7,8 @@ use Rattle.dsm_syntax.specs.declared.errors.ProgErr.TheVariants as err
 use Rattle.dsm_syntax.specs.declared.errors.Which.TheVariants as which
 use Rattle.dsm_syntax.specs.declared.token.Token.{Token}
 use Rattle.dsm_syntax.specs.Tree.{Item}
+use Rattle.dsm_parse.specs.declared.refusal.Refusal.{Refusal}
+use Rattle.dsm_parse.specs.Gives.{Gives}
 use Rattle.dsm_parse.specs.Lexemes.{Lexeme, lexeme_of, lexemes}
 use Rattle.dsm_parse.specs.Programs.{IsProgramOf}
 use Rattle.dsm_parse.specs.Refusals.{IsUnexpected, IsTooHigh, line_from, line_at, IsRefused}
@@ -36,20 +38,31 @@ module _ (d : ℕ) (most : d ≡ 64) (tokens : List Token) where
   told : (r : Read (List Item)) → items d (lexemes tokens) ≡ r → IsExact (lexemes tokens) r
   told r e = subst (IsExact (lexemes tokens)) e (exact d most (lexemes tokens))
 
-  pub is_found : (all : List Item) (rest : List Lexeme) → items d (lexemes tokens) ≡ ok all rest → IsProgramOf (lexemes tokens) all
-  is_found all rest e = told (ok all rest) e
+  module _ (cursor left : List Lexeme) (begins : cursor ≡ lexemes tokens) where
+    pub is_read : (r : List Lexeme → Read (List Item)) → items d cursor ≡ r left → items d (lexemes tokens) ≡ r left
+    is_read r e = ap (items d) (sym begins) ∙ e
 
-  pub left_within : (rest : List Lexeme) → items d (lexemes tokens) ≡ unexpected rest → length rest ≤ length tokens
-  left_within rest e = let h = told (unexpected rest) e in omega (arith, h.1, length-map tokens lexeme_of)
+    unexpected_of : {A : Type 0} (see : A → List Item) (why : Refusal) → why ≡ Refusal.Unexpected → Gives see (items d cursor) (Err why) left → items d (lexemes tokens) ≡ unexpected left
+    unexpected_of see why is e = is_read unexpected (subst (λ w. Gives see (items d cursor) (Err w) left) is e)
 
-  pub is_unexpected : (rest : List Lexeme) (line : ℕ) → items d (lexemes tokens) ≡ unexpected rest → line ≡ line_at tokens (length tokens - length rest) → IsRefused tokens (err.Unexpected line)
-  is_unexpected rest line e at =
-      let h = told (unexpected rest) e in
-      let same : length tokens - length rest ≡ h.0 = omega (arith, h.1, length-map tokens lexeme_of) in
-      (h.0, omega (arith, h.1, length-map tokens lexeme_of), h.2, at ∙ ap (line_at tokens) same)
+    too_high_of : {A : Type 0} (see : A → List Item) (why : Refusal) → why ≡ Refusal.TooHigh → Gives see (items d cursor) (Err why) left → items d (lexemes tokens) ≡ too_high left
+    too_high_of see why is e = is_read too_high (subst (λ w. Gives see (items d cursor) (Err w) left) is e)
 
-  pub is_too_high : (rest : List Lexeme) (count : ℕ) → items d (lexemes tokens) ≡ too_high rest → count ≡ 65 → IsRefused tokens (err.Limit which.Nesting count)
-  is_too_high rest count e at = let h = told (too_high rest) e in (h.0, h.2, refl, at)
+    pub is_found : (all : List Item) → items d cursor ≡ ok all left → IsProgramOf (lexemes tokens) all
+    is_found all e = told (ok all left) (is_read (ok all) e)
+
+    pub left_within : {A : Type 0} (see : A → List Item) (why : Refusal) → why ≡ Refusal.Unexpected → Gives see (items d cursor) (Err why) left → length left ≤ length tokens
+    left_within see why is e = let h = told (unexpected left) (unexpected_of see why is e) in omega (arith, h.1, length-map tokens lexeme_of)
+
+    pub is_unexpected : {A : Type 0} (see : A → List Item) (why : Refusal) (line : ℕ) → why ≡ Refusal.Unexpected → Gives see (items d cursor) (Err why) left
+        → line ≡ line_at tokens (length tokens - length left) → IsRefused tokens (err.Unexpected line)
+    is_unexpected see why line is e at =
+        let h = told (unexpected left) (unexpected_of see why is e) in
+        let same : length tokens - length left ≡ h.0 = omega (arith, h.1, length-map tokens lexeme_of) in
+        (h.0, omega (arith, h.1, length-map tokens lexeme_of), h.2, at ∙ ap (line_at tokens) same)
+
+    pub is_too_high : {A : Type 0} (see : A → List Item) (why : Refusal) (count : ℕ) → why ≡ Refusal.TooHigh → Gives see (items d cursor) (Err why) left → count ≡ 65 → IsRefused tokens (err.Limit which.Nesting count)
+    is_too_high see why count is e at = let h = told (too_high left) (too_high_of see why is e) in (h.0, h.2, refl, at)
 
 -- no program is refused
 pub not_refused : (tokens : List Token) (all : List Item) (e : ProgErr) → IsProgramOf (lexemes tokens) all → IsRefused tokens e → e ≡ err.Memory

@@ -12,7 +12,7 @@ ghost use Rattle.dsm_parse.specs.Refusals.{line_at, IsRefused};
 use crate::cursor::Cursor;
 use crate::item::items;
 use crate::refusal::Refusal;
-use dsm_syntax::{Item, ProgErr, Token, Tokens, Tree, Which};
+use dsm_syntax::{ProgErr, Token, Tokens, Tree, Which};
 use std::alloc::Global;
 
 /// How many nodes there may be on a way down in a function.
@@ -29,7 +29,7 @@ fn line_at(tokens: &[Token], place: usize) -> u32
 }
 
 /// The items that the tokens spell, of at most such a height.
-fn read(alloc: Global, tokens: &[Token], most: u32) -> Result<Vec<Item>, ProgErr>
+fn read(alloc: Global, tokens: &[Token], most: u32) -> Result<Vec<dsm_syntax::Item>, ProgErr>
     requires { most ≡ 64 }
     ensures found { IfOk result (λ all. IsProgramOf (lexemes tokens.now) (view_items all.items)) }
     ensures refused { IfErr result (IsRefused tokens.now) }
