@@ -17,3 +17,4 @@ pub mod Branches
 pub mod Blocks
 pub mod Statements
 pub mod Bodies
+pub mod Readbacks
