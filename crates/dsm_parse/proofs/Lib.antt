@@ -16,5 +16,13 @@ pub mod Simples
 pub mod Branches
 pub mod Blocks
 pub mod Statements
-pub mod Bodies
 pub mod Readbacks
+pub mod Bodies
+pub mod Declarations
+pub mod Bindings
+pub mod Functions
+pub mod Items
+pub mod Spellings
+pub mod Exact
+pub mod Soundness
+pub mod Whole

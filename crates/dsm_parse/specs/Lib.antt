@@ -10,3 +10,4 @@ pub mod Gives
 pub mod Signs
 pub mod Expressions
 pub mod Statements
+pub mod Items

@@ -1,9 +1,13 @@
 //! The reader of programs: the tree that tokens spell, or the first token that is refused.
 #![tactic(auto)]
 
+mod binding;
 mod cursor;
+mod declarator;
 mod expression;
+mod function;
 mod head;
+mod item;
 mod kind;
 mod measured;
 mod operator;
