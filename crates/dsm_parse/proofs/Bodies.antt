@@ -10,6 +10,7 @@ use Rattle.dsm_parse.specs.Statements.{statements, statement, body}
 use Rattle.dsm_parse.proofs.Good.{Language, Free, Spelled, Good, good_weaken, good_up, good_sign}
 use Rattle.dsm_parse.proofs.Blocks.{statements_good}
 use Rattle.dsm_parse.proofs.Statements.{statement_good}
+use Rattle.dsm_parse.proofs.Readbacks.{closed_read, all_read}
 
 abbrev pub BodyOf : Language Statements
 BodyOf = Spelled spell_body FitStatements (λ b. height_statements b + 1)
@@ -21,4 +22,5 @@ good_body (suc d) one ts = good_up (good_sign Sign.BraceOpen (λ rest. good_weak
     (λ all next f. f) (statements_good d (statement_good d) rest))) (λ m s le lk. refl)
 
 pub body_reads : (b : Statements) (d : ℕ) (rest : List Lexeme) → FitStatements b → height_statements b + 1 ≤ d → body d (spell_body b ++ rest) ≡ ok b rest
-body_reads b d rest fits low = ?
+body_reads b zero rest fits low = absurd (omega arith)
+body_reads b (suc d) rest fits low = closed_read b d rest (all_read b fits d rest (omega arith))

@@ -16,6 +16,7 @@ pub mod Simples
 pub mod Branches
 pub mod Blocks
 pub mod Statements
+pub mod Readbacks
 pub mod Bodies
 pub mod Declarations
 pub mod Bindings
