@@ -9,6 +9,7 @@ mod function;
 mod head;
 mod item;
 mod kind;
+mod laws;
 mod measured;
 mod operator;
 mod print;
@@ -18,4 +19,5 @@ mod simple;
 mod statement;
 mod variable;
 
+pub use laws::{one_tree, refused_for_good, tree_or_refusal};
 pub use program::parse;
