@@ -26,3 +26,4 @@ pub mod Spellings
 pub mod Exact
 pub mod Soundness
 pub mod Whole
+pub mod Rounds
