@@ -1,5 +1,5 @@
 -- The bodies of functions with every name resolved, or the first fault from the left.
-use Rattle.std.specs.Prelude.{ℕ, suc, ◌+◌, Bool, true, false, ◌==◌, ◌&&◌, bytes_eq, List, [], ◌∷◌, ◌++◌, length, Option, Some, None, Ok, Err, if◌then◌else◌}
+use Rattle.std.specs.Prelude.{ℕ, suc, ◌+◌, Bool, true, false, ◌==◌, ◌&&◌, min, bytes_eq, List, [], ◌∷◌, ◌++◌, length, Option, Some, None, Ok, Err, if◌then◌else◌}
 use Rattle.dsm_base.specs.declared.names.Mode.{Mode}
 use Rattle.dsm_syntax.specs.declared.errors.ProgErr.TheVariants as err
 use Rattle.dsm_syntax.specs.declared.errors.Which.TheVariants as which
@@ -42,7 +42,7 @@ as_called needed name given (Named.Function number returns wanted) =
     if bytes_eq name.text main_name then wrong_kind name
     else (if needed && is_void returns then wrong_kind name
     else (if given == wanted then Ok number
-    else Err (err.ArgCount name.text name.line given wanted)))
+    else Err (err.ArgCount name.text name.line (min given 4294967295) wanted)))
 as_called needed name given _ = wrong_kind name
 
 abbrev mutual
@@ -98,13 +98,17 @@ abbrev mutual
     others ← resolve_all names rest
     Ok (r.cons first others)
 
--- an expression whose value isn't needed: where it is a call, the function may have none
-abbrev pub resolve_effect : List Entry → t.Expression → Check r.Expression
-resolve_effect names (t.call name arguments) = do
+-- a call, by whether its value is needed
+abbrev pub resolve_call : Bool → List Entry → Name → t.Expressions → Check r.Expression
+resolve_call needed names name arguments = do
   named ← used names name
-  function ← as_called false name (count_of arguments) named
+  function ← as_called needed name (count_of arguments) named
   values ← resolve_all names arguments
   Ok (r.call function values name.line)
+
+-- an expression whose value isn't needed: where it is a call, the function may have none
+abbrev pub resolve_effect : List Entry → t.Expression → Check r.Expression
+resolve_effect names (t.call name arguments) = resolve_call false names name arguments
 resolve_effect names e = resolve names e
 
 -- where there is one
@@ -190,6 +194,12 @@ text_bytes [] = 0
 text_bytes (t.part_text text ∷ rest) = length text + text_bytes rest
 text_bytes (t.part_value e ∷ rest) = text_bytes rest
 
+abbrev pub resolve_print : List Entry → List t.Part → Check (List r.Part)
+resolve_print names parts = do
+  count ← within which.PrintParts 8 (length parts)
+  bytes ← within which.PrintText 96 (text_bytes parts)
+  all_made (resolve_part names) parts
+
 abbrev pub resolve_start : Scope → t.ForStart → Check (r.ForStart × Scope)
 resolve_start scope t.start_nothing = Ok (r.start_nothing, scope)
 resolve_start scope (t.start_variables variables) = do
@@ -256,9 +266,7 @@ abbrev mutual
     number ← as_barrier name named
     Ok (r.barrier (record { 0 = number }), scope)
   resolve_statement around looped scope (t.print parts) = do
-    count ← within which.PrintParts 8 (length parts)
-    bytes ← within which.PrintText 96 (text_bytes parts)
-    made ← all_made (resolve_part scope.names) parts
+    made ← resolve_print scope.names parts
     Ok (r.print made, scope)
 
   pub resolve_statements : Around → Bool → Scope → t.Statements → Check (r.Statements × Scope)

@@ -7,3 +7,8 @@ pub mod Bindings
 pub mod Bodies
 pub mod Programs
 pub mod Setups
+pub mod Answers
+pub mod Scopes
+pub mod Numbers
+pub mod FileTables
+pub mod BodyTables
