@@ -1,5 +1,6 @@
 -- Lists that are made one by one.
-use Rattle.std.proofs.Common.{◌≡◌, ℕ, Bool, ◌+◌, ◌<◌, drop, get_or, add-one, List, [], ◌∷◌, ◌++◌, length, suc, Result, Ok, Err, refl, sym, ap, ◌∙◌}
+use Rattle.std.proofs.Common.{◌≡◌, ℕ, Bool, ◌+◌, ◌<◌, drop, get_or, add-one, List, [], ◌∷◌, ◌++◌, length, suc, Result, Ok, Err, refl, sym, ap, ◌∙◌, append_assoc}
+use Rattle.std.proofs.lemmas.List.{append-nil}
 use Rattle.std.proofs.Math.Seq.{drop-cons}
 use Rattle.dsm_syntax.specs.declared.errors.ProgErr.{ProgErr}
 use Rattle.dsm_syntax.specs.declared.tree.Expr.{Expr}
@@ -11,8 +12,8 @@ use Rattle.dsm_check.specs.declared.resolved.Expression.{Expression}
 use Rattle.dsm_check.specs.Resolved as r
 use Rattle.dsm_check.specs.Views.{view, views}
 use Rattle.dsm_check.specs.Environments.{Entry}
-use Rattle.dsm_check.specs.Checks.{Check, ◌>>=◌, used}
-use Rattle.dsm_check.specs.Bodies.{count_of, as_called, resolve, resolve_all, resolve_call}
+use Rattle.dsm_check.specs.Checks.{Check, ◌>>=◌, used, each_made}
+use Rattle.dsm_check.specs.Bodies.{all_made, count_of, as_called, resolve, resolve_all, resolve_call}
 
 -- what is left at a place is the item there, and what is left behind it
 pub drop-next : {A : Type 0} (all : List A) (i : ℕ) (item : A) → i < length all → item ≡ get_or all i item → drop i all ≡ item ∷ drop (i + 1) all
@@ -75,3 +76,49 @@ called needed names name arguments named function values h1 h2 h3 =
         ∙ ap (λ n. as_called needed name n named >>= (λ function. resolve_all names (tree.views arguments) >>= (λ values. Ok (r.call function values name.line)))) (counted arguments)
         ∙ ap (λ found. found >>= (λ function. resolve_all names (tree.views arguments) >>= (λ values. Ok (r.call function values name.line)))) h2
         ∙ ap (λ found. found >>= (λ values. Ok (r.call function values name.line))) h3
+
+-- Lists.
+
+-- what was made, and then the rest
+abbrev pub onto : {B S : Type 0} → List B → Check (List B × S) → Check (List B × S)
+onto made (Ok more) = Ok (made ++ more.0, more.1)
+onto made (Err e) = Err e
+
+pub onto-none : {B S : Type 0} (check : Check (List B × S)) → check ≡ onto [] check
+onto-none (Ok more) = refl
+onto-none (Err e) = refl
+
+pub onto-next : {A B S : Type 0} (step : S → A → Check (B × S)) (made : List B) (before : S) (a : A) (rest : List A) (b : B) (next : S)
+    → step before a ≡ Ok (b, next)
+    → onto made (each_made step before (a ∷ rest)) ≡ onto (made ++ b ∷ []) (each_made step next rest)
+onto-next {A} {B} {S} step made before a rest b next h =
+    ap (λ first. onto made (first >>= (λ one. each_made step one.1 rest >>= (λ others. Ok (one.0 ∷ others.0, others.1))))) h
+        ∙ by (each_made step next rest)
+  where
+    by : (check : Check (List B × S)) → onto made (check >>= (λ others. Ok (b ∷ others.0, others.1))) ≡ onto (made ++ b ∷ []) check
+    by (Ok more) = ap (λ (all : List B). Ok (all, more.1)) (sym (append_assoc made (b ∷ []) more.0))
+    by (Err e) = refl
+
+pub onto-end : {B S : Type 0} (made : List B) (state : S) → onto made (Ok ([], state)) ≡ Ok (made, state)
+onto-end {B} made state = ap (λ (all : List B). Ok (all, state)) (append-nil made)
+
+abbrev pub put : {B : Type 0} → List B → Check (List B) → Check (List B)
+put made (Ok more) = Ok (made ++ more)
+put made (Err e) = Err e
+
+pub put-none : {B : Type 0} (check : Check (List B)) → check ≡ put [] check
+put-none (Ok more) = refl
+put-none (Err e) = refl
+
+pub put-next : {A B : Type 0} (make : A → Check B) (made : List B) (a : A) (rest : List A) (b : B) → make a ≡ Ok b
+    → put made (all_made make (a ∷ rest)) ≡ put (made ++ b ∷ []) (all_made make rest)
+put-next {A} {B} make made a rest b h =
+    ap (λ first. put made (first >>= (λ one. all_made make rest >>= (λ others. Ok (one ∷ others))))) h
+        ∙ by (all_made make rest)
+  where
+    by : (check : Check (List B)) → put made (check >>= (λ others. Ok (b ∷ others))) ≡ put (made ++ b ∷ []) check
+    by (Ok more) = ap (λ (all : List B). Ok all) (sym (append_assoc made (b ∷ []) more))
+    by (Err e) = refl
+
+pub put-end : {B : Type 0} (made : List B) → put made (Ok []) ≡ Ok made
+put-end {B} made = ap (λ (all : List B). Ok all) (append-nil made)

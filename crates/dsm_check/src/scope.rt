@@ -4,6 +4,7 @@ ghost use Rattle.std.specs.Prelude.{◌≡◌, ◌+◌, ◌≤◌, OnOk, IfOk};
 ghost use Rattle.dsm_check.specs.Environments.{meaning, is_here, opened, closed};
 ghost use Rattle.dsm_check.specs.Checks.{used};
 ghost use Rattle.dsm_check.specs.Bodies.{open_block, with_variable};
+ghost use Rattle.dsm_check.specs.FileTables.{names_of};
 ghost use Rattle.dsm_check.specs.Answers.{Gives};
 
 use crate::limits::within;
@@ -42,6 +43,19 @@ pub struct Scope<'a> {
 
 impl<'a> Scope<'a> {
     ghost use Rattle.dsm_check.specs.BodyTables.{scope_of, locals_of, blocks_in};
+
+    /// The names of a file, and none of a function.
+    pub fn new(alloc: Global, file: &'a Names) -> Scope<'a>
+        ensures value { scope_of result ≡ record { names = names_of file.now; slots = 0 } }
+        ensures slots { result.slots ≡ 0 }
+    {
+        Scope {
+            alloc,
+            file,
+            locals: Stack::new(alloc),
+            slots: 0,
+        }
+    }
 
     /// What a name stands for. Of its declarations the newest counts.
     fn meaning(&self, name: &[u8]) -> Option<Named>

@@ -1,13 +1,12 @@
 //! Statements with every name resolved.
 
-ghost use Rattle.std.specs.Prelude.{◌≡◌, ◌≤◌, [], map, min, false, Ok, Err, OnOk, if◌then◌else◌};
+ghost use Rattle.std.specs.Prelude.{◌≡◌, ◌≤◌, map, min, false, Ok, Err, OnOk, if◌then◌else◌};
 ghost use Rattle.dsm_syntax.specs.Views as tree;
 ghost use Rattle.dsm_check.specs.Views.{view, view_variable, view_part, view_start, view_lock, view_statement, view_statements};
 ghost use Rattle.dsm_check.specs.Checks.{each_made};
 ghost use Rattle.dsm_check.specs.Bodies.{resolve_variable, as_one_lock, as_lock_array, resolve_lock, resolve_part, all_made, text_bytes, resolve_print, resolve_start, resolve_return, resolve_statement, resolve_statements, open_block, closing};
-ghost use Rattle.dsm_syntax.specs.Tree as t;
-ghost use Rattle.dsm_syntax.specs.declared.tree.Returns.{Returns};
 ghost use Rattle.dsm_syntax.specs.declared.errors.ProgErr.TheVariants.{OutsideLoop};
+ghost use Rattle.dsm_syntax.specs.Tree as t;
 ghost use Rattle.dsm_check.specs.Bindings.{as_barrier};
 ghost use Rattle.dsm_check.specs.BodyTables.{around_of, blocks_in};
 ghost use Rattle.dsm_check.specs.Answers.{Gives};
@@ -179,11 +178,110 @@ impl<'a> Scope<'a> {
         self.optional_expression(value)
     }
 
-    /// A barrier that a statement names.
-    fn barrier(&self, name: &Name) -> Result<Statement, ProgErr>
-        ensures { Gives (λ made. (view_statement made, scope_of self.now)) result (resolve_statement (record { name = []; returns = Returns.Int }) false (scope_of self.now) (t.barrier name.now)) }
+    /// A statement that is part of another, as a block of its own.
+    #[cycle(statement)]
+    fn inner(&mut self, around: Around<'a>, looped: bool, s: &'a Stmt) -> Result<Box<Statement>, ProgErr>
+        requires { 1 ≤ blocks_in self.old.locals }
+        ensures value { Gives (λ made. (view_statement made.value, scope_of self.new)) result (closing (resolve_statement (around_of around.entry) looped (open_block (scope_of self.old)) (tree.view_statement s.now))) }
+        ensures blocks { OnOk result (blocks_in self.new.locals ≡ blocks_in self.old.locals) }
     {
-        let number = as_barrier(self.alloc, name, self.used(name)?)?;
-        Ok(Statement::Barrier(Bar(number)))
+        self.open()?;
+        let made = self.statement(around, looped, s)?;
+        self.close();
+        let made = Box::new(self.alloc, made)?;
+        Ok(made)
+    }
+
+    /// A `for`.
+    #[cycle(statement)]
+    fn for_loop(
+        &mut self,
+        around: Around<'a>,
+        start: &'a tree::ForStart,
+        test: &'a Option<Expr>,
+        step: &'a Option<Expr>,
+        body: &'a Stmt,
+    ) -> Result<Statement, ProgErr>
+        requires { 1 ≤ blocks_in self.old.locals }
+        ensures value { Gives (λ made. (view_statement made, scope_of self.new)) result (resolve_statement (around_of around.entry) false (scope_of self.old) (t.for (tree.view_start start.now) (tree.option_view tree.view test.now) (tree.option_view tree.view step.now) (tree.view_statement body.now))) }
+        ensures blocks { OnOk result (blocks_in self.new.locals ≡ blocks_in self.old.locals) }
+    {
+        self.open()?;
+        let start = self.start(start)?;
+        let test = self.optional_expression(test)?;
+        let step = self.optional_effect(step)?;
+        let body = self.inner(around, true, body)?;
+        self.close();
+        Ok(Statement::For(start, test, step, body))
+    }
+
+    /// Statements one after the other.
+    #[cycle(statement)]
+    pub fn statements(&mut self, around: Around<'a>, looped: bool, statements: &'a [Stmt]) -> Result<Vec<Statement>, ProgErr>
+        requires { 1 ≤ blocks_in self.old.locals }
+        ensures value { Gives (λ made. (view_statements made.items, scope_of self.new)) result (resolve_statements (around_of around.entry) looped (scope_of self.old) (tree.view_statements statements.now)) }
+        ensures blocks { OnOk result (blocks_in self.new.locals ≡ blocks_in self.old.locals) }
+    {
+        let mut made = Vec::new(self.alloc);
+        for statement in statements {
+            made.push(self.statement(around, looped, statement)?)?;
+        }
+        Ok(made)
+    }
+
+    /// A block.
+    #[cycle(statement)]
+    fn block(&mut self, around: Around<'a>, looped: bool, statements: &'a [Stmt]) -> Result<Statement, ProgErr>
+        requires { 1 ≤ blocks_in self.old.locals }
+        ensures value { Gives (λ made. (view_statement made, scope_of self.new)) result (resolve_statement (around_of around.entry) looped (scope_of self.old) (t.block (tree.view_statements statements.now))) }
+        ensures blocks { OnOk result (blocks_in self.new.locals ≡ blocks_in self.old.locals) }
+    {
+        self.open()?;
+        let made = self.statements(around, looped, statements)?;
+        self.close();
+        Ok(Statement::Block(made))
+    }
+
+    /// A statement, by whether it is in a loop.
+    #[cycle(statement)]
+    fn statement(&mut self, around: Around<'a>, looped: bool, s: &'a Stmt) -> Result<Statement, ProgErr>
+        requires { 1 ≤ blocks_in self.old.locals }
+        ensures value { Gives (λ made. (view_statement made, scope_of self.new)) result (resolve_statement (around_of around.entry) looped (scope_of self.old) (tree.view_statement s.now)) }
+        ensures blocks { OnOk result (blocks_in self.new.locals ≡ blocks_in self.old.locals) }
+    {
+        match s {
+            Stmt::Block(statements) => self.block(around, looped, statements),
+            Stmt::Empty => Ok(Statement::Empty),
+            Stmt::Variables(variables) => Ok(Statement::Variables(self.variables(variables)?)),
+            Stmt::Expression(e) => Ok(Statement::Expression(self.effect(e)?)),
+            Stmt::If(test, body) => {
+                let test = self.expression(test)?;
+                Ok(Statement::If(test, self.inner(around, looped, body)?))
+            }
+            Stmt::IfElse(test, body, other) => {
+                let test = self.expression(test)?;
+                let body = self.inner(around, looped, body)?;
+                let other = self.inner(around, looped, other)?;
+                Ok(Statement::IfElse(test, body, other))
+            }
+            Stmt::While(test, body) => {
+                let test = self.expression(test)?;
+                Ok(Statement::While(test, self.inner(around, true, body)?))
+            }
+            Stmt::For(start, test, step, body) => self.for_loop(around, start, test, step, body),
+            Stmt::Break { line } => in_loop(looped, *line, Statement::Break),
+            Stmt::Continue { line } => in_loop(looped, *line, Statement::Continue),
+            Stmt::Return { line, value } => {
+                Ok(Statement::Return(self.returned(around, *line, value)?))
+            }
+            Stmt::Acquire(place) => Ok(Statement::Acquire(self.lock(place)?, Mode::Excl)),
+            Stmt::AcquireShared(place) => Ok(Statement::Acquire(self.lock(place)?, Mode::Shared)),
+            Stmt::Release(place) => Ok(Statement::Release(self.lock(place)?)),
+            Stmt::Barrier(name) => {
+                let number = as_barrier(self.alloc, name, self.used(name)?)?;
+                Ok(Statement::Barrier(Bar(number)))
+            }
+            Stmt::Print(parts) => Ok(Statement::Print(self.print(parts)?)),
+        }
     }
 }
