@@ -54,7 +54,7 @@ above pieces cell (suc count) = by (is_some (piece_of pieces cell)) (first_bound
     by false None h = tt
     by false (Some found) h = omega (arith, h)
 
-piece_of-more : (pieces : List Piece) (piece : Piece) (cell : ℕ)
+pub piece_of-more : (pieces : List Piece) (piece : Piece) (cell : ℕ)
     → is_some (piece_of (pieces ++ piece ∷ []) cell) ≡ (is_some (piece_of pieces cell) || is_some (piece_of (piece ∷ []) cell))
 piece_of-more [] piece cell = refl
 piece_of-more (first ∷ pieces) piece cell = by (has_cell cell first) (piece_of-more pieces piece cell)
