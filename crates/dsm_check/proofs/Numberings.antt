@@ -1,5 +1,5 @@
 -- The numbers of a file's names.
-use Rattle.std.proofs.Common.{◌≡◌, ℕ, ◌+◌, ◌<◌, ◌≤◌, Bool, true, false, ◌&&◌, List, [], ◌∷◌, bytes_eq, Option, Some, None, is_some, ◌||◌, IfSome, refl, sym, ap, ◌∙◌, subst, cond, if◌then◌else◌, arith}
+use Rattle.std.proofs.Common.{◌≡◌, ℕ, ◌+◌, ◌<◌, ◌≤◌, Bool, true, false, ◌&&◌, List, [], ◌∷◌, bytes_eq, Option, Some, None, is_some, ◌||◌, IfSome, refl, if◌then◌else◌, arith}
 use Rattle.std.proofs.lemmas.Bool.{false≢true}
 use Rattle.std.proofs.lemmas.Bool.Decides.{nat_tests}
 use Rattle.dsm_syntax.specs.declared.tree.Sharing.{Sharing}
@@ -115,3 +115,6 @@ here_of (known other named ∷ names) name numbered = by (bytes_eq name other) (
 -- a file's name is declared where it means something
 pub here : (names : List Entry) (name : List ℕ) → IsTrue (is_numbered names) → is_here names name ≡ is_some (meaning names name)
 here names name h = here_of names name (numbered names h)
+
+pub limits : (names : List Entry) → IsTrue (is_numbered names) → Totals names
+limits names h = totals names (numbered names h)

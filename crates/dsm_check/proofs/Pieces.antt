@@ -1,5 +1,5 @@
 -- Pieces one after the other.
-use Rattle.std.proofs.Common.{◌≡◌, ℕ, zero, suc, ◌+◌, ◌-◌, ◌*◌, ◌<◌, ◌≤◌, sym, ap, ◌∙◌, add_comm, arith}
+use Rattle.std.proofs.Common.{◌≡◌, ℕ, zero, suc, ◌+◌, ◌-◌, ◌*◌, ◌<◌, ◌≤◌, ap, ◌∙◌, add_comm, arith}
 use Rattle.std.proofs.Math.Nat.{suc-mul}
 
 -- of what is left at a turn, one is for this turn

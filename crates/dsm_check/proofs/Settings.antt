@@ -1,12 +1,14 @@
 -- The pieces of an accepted program.
-use Rattle.std.proofs.Common.{◌≡◌, ℕ, zero, suc, ◌+◌, ◌*◌, ◌≤◌, ◌<◌, Bool, true, false, ◌||◌, ◌&&◌, ltb, leb, eqb, not, List, [], ◌∷◌, ◌++◌, length, get_or, Option, Some, None, IfSome, is_some, Result, Ok, Err, refl, sym, ap, subst, ◌∙◌, append_assoc, true≢false, cond, if◌then◌else◌, arith}
+use Rattle.std.proofs.Common.{◌≡◌, ℕ, zero, suc, ◌+◌, ◌*◌, ◌≤◌, ◌<◌, Bool, true, false, ◌||◌, ◌&&◌, ltb, leb, eqb, not, List, [], ◌∷◌, ◌++◌, Option, Some, None, IfSome, is_some, Ok, Err, refl, sym, ap, subst, ◌∙◌, append_assoc, true≢false, cond, if◌then◌else◌, arith}
 use Rattle.std.specs.Prelude.{IsTrue, All, AllPairs}
 use Rattle.std.proofs.lemmas.List.{append-nil}
 use Rattle.std.proofs.lemmas.List.Elements.{All-push}
 use Rattle.std.proofs.lemmas.List.Quantifiers.{all_pairs_push}
-use Rattle.std.proofs.lemmas.Bool.{lt-ltb, le-ltb, ltb-true, ltb-false, leb-true, leb-false}
+use Rattle.std.proofs.lemmas.Bool.{ltb-true, ltb-false, leb-true}
 use Rattle.std.proofs.lemmas.Bool.Decides.{nat_tests}
 use Rattle.std.proofs.Math.Nat.{suc-mul}
+use Rattle.std.proofs.Math.Logic.{∥∥₁_elim}
+use Rattle.std.proofs.Props.{props}
 use Rattle.dsm_base.specs.declared.setup.Piece.{Piece}
 use Rattle.dsm_base.specs.Access.{has_cell, piece_of}
 use Rattle.dsm_syntax.specs.declared.errors.ProgErr.{ProgErr}
@@ -23,9 +25,14 @@ use Rattle.dsm_check.specs.Environments.{Entry, meaning, extent, total, cells_in
 use Rattle.dsm_check.specs.Numbers.{is_numbered, IsThere}
 use Rattle.dsm_check.specs.Bindings.{first_bound, bound, lock_piece, lock_pieces, barrier_piece, is_range, is_rhythm, as_locks, as_size, as_index, as_shared, as_barrier, locks_of, barrier_of, shared_of, with_bind, with_bind_each, with_bind_barrier, with_binding, pieces_of}
 use Rattle.dsm_check.specs.Checks.{Check, ◌>>=◌, each, used, natural}
-use Rattle.dsm_check.specs.Setups.{is_bound_to, AreApart}
+use Rattle.dsm_base.specs.declared.setup.Setup.{Setup}
+use Rattle.dsm_check.specs.FileNames.{file_names, main_of, main_name}
+use Rattle.dsm_check.specs.Bodies.{functions_of}
+use Rattle.dsm_check.specs.Programs.{Program, checked}
+use Rattle.dsm_check.specs.Accepted.{IsAccepted}
+use Rattle.dsm_check.specs.Setups.{is_bound_to, AreApart, IsSetup, setup_of}
 use Rattle.dsm_check.proofs.Bounds.{piece_of-more}
-use Rattle.dsm_check.proofs.Numberings.{there}
+use Rattle.dsm_check.proofs.Numberings.{there, limits}
 
 pub record ArePieces (locks bars cells : ℕ) (pieces : List Piece) : Type 0 where
   pub within : All (λ piece. piece.first.0 + piece.count ≤ cells) pieces
@@ -91,9 +98,9 @@ row locks bars cells lock cell count (suc n) pieces before few within free =
     let piece = lock_piece lock cell count in
     let now = one locks bars cells pieces piece before (omega (arith, within, all)) (grind (arith, nat_tests)) (λ x low high. free x low (omega (arith, high, all))) in
     let rest : IsFree (pieces ++ piece ∷ []) (cell + count) (n * count) = λ x low high.
-        piece_of-more pieces piece x ∙ ap (λ b. b || is_some (piece_of (piece ∷ []) x)) (free x (omega (arith, low)) (omega (arith, high, all))) ∙ outside piece x low in
+    piece_of-more pieces piece x ∙ ap (λ b. b || is_some (piece_of (piece ∷ []) x)) (free x (omega (arith, low)) (omega (arith, high, all))) ∙ outside piece x low in
     subst (ArePieces locks bars cells) (append_assoc pieces (piece ∷ []) (lock_pieces (lock + 1) (cell + count) count n))
-        (row locks bars cells (lock + 1) (cell + count) count n (pieces ++ piece ∷ []) now (omega arith) (omega (arith, within, all)) rest)
+    (row locks bars cells (lock + 1) (cell + count) count n (pieces ++ piece ∷ []) now (omega arith) (omega (arith, within, all)) rest)
 
 -- What is known of a check that succeeded.
 
@@ -181,9 +188,6 @@ a_barrier : (barrier barriers first : ℕ) (bind : BindBarrier) → barrier < ba
     → IsTrue (ltb barrier barriers && ltb (natural bind.phase) (natural bind.period))
 a_barrier barrier barriers first bind h rhythm = grind (arith, nat_tests)
 
-abbrev the_check : {A : Type 0} → Check A → Check A
-the_check check = check
-
 -- Each binding keeps what is known of the pieces.
 
 module _ (names : List Entry) (numbered : IsTrue (is_numbered names)) where
@@ -211,8 +215,8 @@ module _ (names : List Entry) (numbered : IsTrue (is_numbered names)) where
   bind_last : (pieces : List Piece) (bind : Bind) (after : List Piece) (locks : ℕ × Option ℕ) (index : ℕ) (cells : Array)
       → locks.0 + extent locks.1 ≤ total locks_in names → cells.first + cells.size ≤ total (cells_in Sharing.Shared) names
       → (if ltb index (extent locks.1) && is_range cells (natural bind.first) (natural bind.count)
-          then bound pieces bind.line (cells.first + natural bind.first) (natural bind.count) (lock_piece (locks.0 + index) (cells.first + natural bind.first) (natural bind.count) ∷ [])
-          else Err (err.BindRange bind.line)) ≡ Ok after
+      then bound pieces bind.line (cells.first + natural bind.first) (natural bind.count) (lock_piece (locks.0 + index) (cells.first + natural bind.first) (natural bind.count) ∷ [])
+      else Err (err.BindRange bind.line)) ≡ Ok after
       → Kept pieces → Kept after
   bind_last pieces bind after locks index cells few within h before =
       let first = cells.first + natural bind.first in
@@ -225,7 +229,7 @@ module _ (names : List Entry) (numbered : IsTrue (is_numbered names)) where
       let added = bound_ok pieces bind.line first count (piece ∷ []) after passed.1 in
       let is_lock : locks.0 + index < total locks_in names = omega (arith, below, few) in
       subst Kept added.1 (one (total locks_in names) (total barriers_in names) (total (cells_in Sharing.Shared) names) pieces piece before
-          (omega (arith, range, within)) (a_lock (locks.0 + index) (total locks_in names) is_lock) added.0)
+      (omega (arith, range, within)) (a_lock (locks.0 + index) (total locks_in names) is_lock) added.0)
 
   bind_keeps : (pieces : List Piece) (bind : Bind) (after : List Piece) → with_bind names pieces bind ≡ Ok after → Kept pieces → Kept after
   bind_keeps pieces bind after h before =
@@ -237,8 +241,8 @@ module _ (names : List Entry) (numbered : IsTrue (is_numbered names)) where
   each_last : (pieces : List Piece) (bind : BindEach) (after : List Piece) (locks : ℕ × Option ℕ) (size : ℕ) (cells : Array)
       → locks.0 + size ≤ total locks_in names → cells.first + cells.size ≤ total (cells_in Sharing.Shared) names
       → (if not (eqb (natural bind.count) 0) && leb (size * natural bind.count) cells.size
-          then bound pieces bind.line cells.first (size * natural bind.count) (lock_pieces locks.0 cells.first (natural bind.count) size)
-          else Err (err.BindRange bind.line)) ≡ Ok after
+      then bound pieces bind.line cells.first (size * natural bind.count) (lock_pieces locks.0 cells.first (natural bind.count) size)
+      else Err (err.BindRange bind.line)) ≡ Ok after
       → Kept pieces → Kept after
   each_last pieces bind after locks size cells few within h before =
       let count = natural bind.count in
@@ -248,7 +252,7 @@ module _ (names : List Entry) (numbered : IsTrue (is_numbered names)) where
       let range = leb-true (size * count) cells.size tests.1 in
       let added = bound_ok pieces bind.line cells.first (size * count) row_of_all after passed.1 in
       subst Kept added.1 (row (total locks_in names) (total barriers_in names) (total (cells_in Sharing.Shared) names) locks.0 cells.first count size pieces before
-          few (omega (arith, range, within)) added.0)
+      few (omega (arith, range, within)) added.0)
 
   size_ok : (name : Name) (size : Option ℕ) (n : ℕ) → as_size name size ≡ Ok n → n ≡ extent size
   size_ok name None n h = cc
@@ -264,8 +268,8 @@ module _ (names : List Entry) (numbered : IsTrue (is_numbered names)) where
   barrier_last : (pieces : List Piece) (bind : BindBarrier) (after : List Piece) (barrier : ℕ) (cells : Array)
       → barrier < total barriers_in names → cells.first + cells.size ≤ total (cells_in Sharing.Shared) names
       → (if is_range cells (natural bind.first) (natural bind.count) && is_rhythm bind
-          then bound pieces bind.line (cells.first + natural bind.first) (natural bind.count) (barrier_piece barrier (cells.first + natural bind.first) bind ∷ [])
-          else Err (err.BindRange bind.line)) ≡ Ok after
+      then bound pieces bind.line (cells.first + natural bind.first) (natural bind.count) (barrier_piece barrier (cells.first + natural bind.first) bind ∷ [])
+      else Err (err.BindRange bind.line)) ≡ Ok after
       → Kept pieces → Kept after
   barrier_last pieces bind after barrier cells few within h before =
       let first = cells.first + natural bind.first in
@@ -276,7 +280,7 @@ module _ (names : List Entry) (numbered : IsTrue (is_numbered names)) where
       let range = range_ok cells (natural bind.first) count tests.0 in
       let added = bound_ok pieces bind.line first count (piece ∷ []) after passed.1 in
       subst Kept added.1 (one (total locks_in names) (total barriers_in names) (total (cells_in Sharing.Shared) names) pieces piece before
-          (omega (arith, range, within)) (a_barrier barrier (total barriers_in names) first bind few tests.1) added.0)
+      (omega (arith, range, within)) (a_barrier barrier (total barriers_in names) first bind few tests.1) added.0)
 
   bind_barrier_keeps : (pieces : List Piece) (bind : BindBarrier) (after : List Piece) → with_bind_barrier names pieces bind ≡ Ok after → Kept pieces → Kept after
   bind_barrier_keeps pieces bind after h before =
@@ -284,17 +288,17 @@ module _ (names : List Entry) (numbered : IsTrue (is_numbered names)) where
       then_in (shared_of names bind.data) _ after h1 (λ cells e2 h2.
       barrier_last pieces bind after barrier cells (barrier_ok bind.barrier barrier e1) (shared_ok bind.data cells e2) h2 before))
 
-  same_pieces : (pieces after : List Piece) → (the_check (Ok pieces)) ≡ Ok after → Kept pieces → Kept after
-  same_pieces pieces after h before = let same : pieces ≡ after = cc in subst Kept same before
+  same_pieces : (pieces after : List Piece) (now : Check (List Piece)) → now ≡ Ok pieces → now ≡ Ok after → Kept pieces → Kept after
+  same_pieces pieces after now unchanged h before = let same : pieces ≡ after = cc in subst Kept same before
 
   item_keeps : (pieces : List Piece) (item : t.Item) (after : List Piece) → with_binding names pieces item ≡ Ok after → Kept pieces → Kept after
   item_keeps pieces (t.bind bind) after h before = bind_keeps pieces bind after h before
   item_keeps pieces (t.bind_each bind) after h before = bind_each_keeps pieces bind after h before
   item_keeps pieces (t.bind_barrier bind) after h before = bind_barrier_keeps pieces bind after h before
-  item_keeps pieces (t.cells sharing cells) after h before = same_pieces pieces after h before
-  item_keeps pieces (t.locks locks) after h before = same_pieces pieces after h before
-  item_keeps pieces (t.barriers barriers) after h before = same_pieces pieces after h before
-  item_keeps pieces (t.function function) after h before = same_pieces pieces after h before
+  item_keeps pieces (t.cells sharing cells) after h before = same_pieces pieces after (Ok pieces) refl h before
+  item_keeps pieces (t.locks locks) after h before = same_pieces pieces after (Ok pieces) refl h before
+  item_keeps pieces (t.barriers barriers) after h before = same_pieces pieces after (Ok pieces) refl h before
+  item_keeps pieces (t.function function) after h before = same_pieces pieces after (Ok pieces) refl h before
 
   -- the pieces of a program whose names are numbered
   pub kept : (items : List t.Item) (pieces : List Piece) → pieces_of names items ≡ Ok pieces
@@ -305,3 +309,56 @@ module _ (names : List Entry) (numbered : IsTrue (is_numbered names)) where
         bound = λ k d below. absurd (omega (arith, below));
         apart = λ i j d low below. absurd (omega (arith, below));
       })
+
+-- An accepted program is set up as it has to be.
+
+set_up : (items : List t.Item) (program : Program) (procs : ℕ) → IsTrue (is_numbered program.names) → 2 ≤ procs → procs ≤ 16
+    → checked items ≡ Ok program → IsSetup (setup_of program procs)
+set_up items program procs numbered some few h =
+    then_in (file_names items) _ program h (λ names e1 h1.
+    then_in (main_of (meaning names main_name)) _ program h1 (λ main e2 h2.
+    then_in (pieces_of names items) _ program h2 (λ pieces e3 h3.
+    then_in (functions_of names items) _ program h3 (λ functions e4 h4.
+    let made : Program = record {
+      names = names;
+      main = main;
+      shared_cells = total (cells_in Sharing.Shared) names;
+      private_cells = total (cells_in Sharing.Private) names;
+      locks = total locks_in names;
+      barriers = total barriers_in names;
+      pieces = pieces;
+      functions = functions;
+    } in
+    let same : made ≡ program = cc in
+    let P : Program → Type 0 = λ p. IsTrue (is_numbered p.names) → IsSetup (setup_of p procs) in
+    subst P same (λ all_numbered. whole made procs all_numbered some few pieces (kept names all_numbered items pieces e3) refl refl refl refl) numbered))))
+  where
+    whole : (p : Program) (procs : ℕ) → IsTrue (is_numbered p.names) → 2 ≤ procs → procs ≤ 16 → (pieces : List Piece)
+        → ArePieces (total locks_in p.names) (total barriers_in p.names) (total (cells_in Sharing.Shared) p.names) pieces
+        → p.pieces ≡ pieces → p.locks ≡ total locks_in p.names → p.barriers ≡ total barriers_in p.names
+        → p.shared_cells ≡ total (cells_in Sharing.Shared) p.names → IsSetup (setup_of p procs)
+    whole p procs all_numbered some few pieces are e1 e2 e3 e4 =
+        let most = limits p.names all_numbered in
+        let Q : List Piece → Type 0 = ArePieces p.locks p.barriers p.shared_cells in
+        let R : ℕ → Type 0 = λ n. ArePieces n (total barriers_in p.names) (total (cells_in Sharing.Shared) p.names) pieces in
+        let S : ℕ → Type 0 = λ n. ArePieces p.locks n (total (cells_in Sharing.Shared) p.names) pieces in
+        let U : ℕ → Type 0 = λ n. ArePieces p.locks p.barriers n pieces in
+        let all : ArePieces p.locks p.barriers p.shared_cells p.pieces = subst Q (sym e1) (subst U (sym e4) (subst S (sym e3) (subst R (sym e2) are))) in
+        record {
+          some_procs = some;
+          few_procs = few;
+          few_locks = omega (arith, e2, most.locks);
+          few_bars = omega (arith, e3, most.barriers);
+          few_cells = omega (arith, e4, most.shared);
+          within = all.within;
+          bound = all.bound;
+          apart = all.apart;
+        }
+
+IsSetup-prop : (setup : Setup) → IsProp (IsSetup setup)
+IsSetup-prop setup = hlevel props
+
+pub setting : (program : Program) (procs : ℕ) → IsTrue (is_numbered program.names) → 2 ≤ procs → procs ≤ 16
+    → ∥ IsAccepted program ∥₁ → IsSetup (setup_of program procs)
+setting program procs numbered some few accepted =
+    ∥∥₁_elim accepted (IsSetup-prop (setup_of program procs)) (λ (a : IsAccepted program). set_up a.0 program procs numbered some few a.2)

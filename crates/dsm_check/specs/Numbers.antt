@@ -1,6 +1,5 @@
 -- The numbers of a file's names.
-use Rattle.std.specs.Prelude.{ℕ, ◌+◌, ◌<◌, ◌≤◌, Bool, true, false, ◌&&◌, ◌==◌, nat_lt, nat_le, List, [], ◌∷◌}
-use Rattle.dsm_syntax.specs.declared.tree.Sharing.{Sharing}
+use Rattle.std.specs.Prelude.{◌+◌, ◌<◌, ◌≤◌, Bool, true, false, ◌&&◌, ◌==◌, nat_lt, nat_le, List, [], ◌∷◌}
 use Rattle.dsm_check.specs.declared.names.Named.{Named}
 use Rattle.dsm_check.specs.Environments.{Entry, opened, known, extent, total, cells_in, locks_in, barriers_in, functions_in}
 use Rattle.dsm_check.specs.FileNames.{most_cells}

@@ -1,5 +1,5 @@
 -- How a program is set up, and which numbers of processors fit it.
-use Rattle.std.specs.Prelude.{◌≡◌, ℕ, ◌+◌, ◌<◌, ◌≤◌, true, Bool, ◌&&◌, ◌==◌, not, nat_lt, IsTrue, All, AllPairs, List, Option, Some, None, find, Result, Ok, Err}
+use Rattle.std.specs.Prelude.{◌≡◌, ℕ, ◌+◌, ◌≤◌, true, Bool, ◌&&◌, ◌==◌, not, nat_lt, IsTrue, All, AllPairs, Option, Some, None, find, Ok, Err}
 use Rattle.dsm_base.specs.declared.setup.Object.{Object}
 use Rattle.dsm_base.specs.declared.setup.Piece.{Piece}
 use Rattle.dsm_base.specs.declared.setup.Setup.{Setup}

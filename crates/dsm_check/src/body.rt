@@ -33,11 +33,7 @@ fn declare_params<'a>(scope: &mut Scope<'a>, params: &'a [Name]) -> Result<(), P
 }
 
 /// A function with every name resolved.
-fn resolve(
-    alloc: Global,
-    file: &Names,
-    function: &tree::Function,
-) -> Result<Function, ProgErr>
+fn resolve(alloc: Global, file: &Names, function: &tree::Function) -> Result<Function, ProgErr>
     ensures { Gives view_resolved result (resolve_function (names_of file.now) (view_function function.now)) }
 {
     let around = Around {

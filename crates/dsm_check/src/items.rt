@@ -175,7 +175,12 @@ impl Declared {
         Ok(())
     }
 
-    fn all_cells(&mut self, alloc: Global, sharing: Sharing, cells: &[Declarator]) -> Result<(), ProgErr>
+    fn all_cells(
+        &mut self,
+        alloc: Global,
+        sharing: Sharing,
+        cells: &[Declarator],
+    ) -> Result<(), ProgErr>
         requires { AreCounted self.old }
         ensures value { Gives (λ _. names_of self.new.names) result (each (with_cells sharing) (names_of self.old.names) cells.now) }
         ensures counted { OnOk result (AreCounted self.new) }

@@ -24,11 +24,13 @@ fn main_of(names: &Names) -> Result<u16, ProgErr>
     ensures { result ≡ main_of (meaning (names_of names.now) main_name) }
 {
     match names.get(b"main".as_slice()) {
-        Some(Named::Function {
-            number,
-            returns: Returns::Int,
-            params: 2,
-        }) => Ok(number),
+        Some(
+            Named::Function {
+                number,
+                returns: Returns::Int,
+                params: 2,
+            },
+        ) => Ok(number),
         _ => Err(ProgErr::NoMain),
     }
 }

@@ -1,4 +1,4 @@
-use Rattle.std.proofs.Common.{◌≡◌, ℕ, suc, ◌+◌, ◌-◌, ◌*◌, ◌<◌, ◌≤◌, List, ◌++◌, ◌∷◌, [], sym, ap, ◌∙◌, append_assoc, arith}
+use Rattle.std.proofs.Common.{◌≡◌, ℕ, suc, ◌+◌, ◌-◌, List, ◌++◌, ◌∷◌, [], sym, ap, ◌∙◌, append_assoc, arith}
 use Rattle.std.proofs.lemmas.List.{append-nil}
 use Rattle.dsm_base.specs.declared.setup.Piece.{Piece}
 use Rattle.dsm_check.specs.Bindings.{lock_piece, lock_pieces}
@@ -32,5 +32,5 @@ pub returns-clause-pieces : goal.returns-clause-pieces
 returns-clause-pieces c =
     let none : c.args.size - c.loop.counter ≡ 0 = omega (arith, c.loop-test.false) in
     sym (append-nil c.loop.self.pieces)
-        ∙ ap (λ (m : ℕ). c.loop.self.pieces ++ lock_pieces c.loop.next c.loop.cell c.args.count m) (sym none)
-        ∙ c.loop.invariant.pieces
+    ∙ ap (λ (m : ℕ). c.loop.self.pieces ++ lock_pieces c.loop.next c.loop.cell c.args.count m) (sym none)
+    ∙ c.loop.invariant.pieces
