@@ -19,10 +19,11 @@ abbrev pub units_left : Bool → List Act → List (List (List ℕ)) → Option 
 units_left false units rows = units_after_procs rows
 units_left true units rows = option_and_then (λ more. limited (units ++ more)) (units_of rows)
 
--- what is owed for the refusal of what isn't built; want of memory owes nothing
+-- what is owed for the refusal of what isn't built; want of memory owes nothing, and no other comes yet
 abbrev pub IfRefused : Type 0 → SchedErr → Type 0
 IfRefused P (SchedErr.NotBuilt line) = (line ≡ 0) × P
 IfRefused P SchedErr.Memory = Unit {0}
+IfRefused P _ = ⊥
 
 -- a schedule is read exactly where the text is one, but for want of memory
 abbrev pub IsRead : List ℕ → Result Schedule SchedErr → Type 0

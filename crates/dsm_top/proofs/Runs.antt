@@ -10,7 +10,6 @@ use Rattle.dsm_base.specs.declared.setup.Setup.{Setup}
 use Rattle.dsm_trace.specs.declared.trace.Group.{Group}
 use Rattle.dsm_trace.specs.Fits.{IsWithin, FitsUnits}
 use Rattle.dsm_trace.specs.OneMemory.{is_any_lock, BindsLocksOnly, IsOneMemory}
-use Rattle.dsm_laws_locks.specs.Within.{BindsWithin}
 use Rattle.dsm_small.specs.declared.thread.SmallMaker.{SmallMaker}
 use Rattle.dsm_small.specs.declared.tree.SmallProgram.{SmallProgram}
 use Rattle.dsm_small.specs.Meaning.{small_first, small_semantics}
@@ -26,35 +25,30 @@ use Rattle.dsm_top.proofs.Units.{all_front}
 
 -- the law of locks, for threads of small programs
 abbrev pub Law : Type 0
-Law = (maker : SmallMaker) (setup : Setup) (units : List Act) (trace : List Group) → BindsLocksOnly setup → BindsWithin setup → AllByRecursion (IsWithin setup) units →
+Law = (maker : SmallMaker) (setup : Setup) (units : List Act) (trace : List Group) → BindsLocksOnly setup → AllByRecursion (IsWithin setup) units →
     FitsUnits setup (first_by maker setup.procs) small_semantics units trace → IsOneMemory setup (first_by maker setup.procs) small_semantics trace
 
 locks_only : (has_items : Bool) → AllByRecursion (λ piece. is_any_lock piece.object ≡ true) (if has_items then the_piece ∷ [] else [])
 locks_only true = (refl, tt)
 locks_only false = tt
 
-pieces_within : (has_items : Bool) → AllByRecursion (λ piece. piece.first.0 + piece.count ≤ (if has_items then 1 else 0)) (if has_items then the_piece ∷ [] else [])
-pieces_within true = (omega (arith), tt)
-pieces_within false = tt
-
-module _ (program : SmallProgram) (schedule : List Act) (law : Law) (all_within : AllByRecursion (IsWithin (small_setup program 2)) schedule) where
+module _ (program : SmallProgram) (schedule : List Act) (law : Law) (all_within : AllByRecursion (IsWithin (small_setup program 2 refl)) schedule) where
   -- a front of the schedule, as the law has it
-  pub is_run : (units : ℕ) (trace : List Group) → units ≤ length schedule → FitsUnits (small_setup program 2) (small_first program 2) small_semantics (reverse (take units schedule)) trace → IsRun program schedule units trace
+  pub is_run : (units : ℕ) (trace : List Group) → units ≤ length schedule → FitsUnits (small_setup program 2 refl) (small_first program 2) small_semantics (reverse (take units schedule)) trace → IsRun program schedule units trace
   is_run units trace within fits = record {
     within = within;
     fits = fits;
-    one_memory = law record { program = program } (small_setup program 2) (reverse (take units schedule)) trace (locks_only program.has_items) (pieces_within program.has_items)
-        (all_front (IsWithin (small_setup program 2)) schedule units all_within) fits;
+    one_memory = law record { program = program } (small_setup program 2 refl) (reverse (take units schedule)) trace (locks_only program.has_items) (all_front (IsWithin (small_setup program 2 refl)) schedule units all_within) fits;
   }
 
-  module _ (world : SmallWorld) (left : Left) (setup : setup_of world ≡ small_setup program 2) (first : first_in world ≡ small_first program 2)
+  module _ (world : SmallWorld) (left : Left) (setup : setup_of world ≡ small_setup program 2 refl) (first : first_in world ≡ small_first program 2)
       (within : units_of world ≤ length schedule) (fits : FitsFirst world schedule) (trace : left.trace ≡ groups_of world) (units : left.units ≡ units_of world) where
     run : IsRun program schedule left.units left.trace
     run =
         let at_setup = subst (λ s. FitsUnits s (first_in world) small_semantics (reverse (take (units_of world) schedule)) (groups_of world)) setup fits in
-        let at_first = subst (λ f. FitsUnits (small_setup program 2) f small_semantics (reverse (take (units_of world) schedule)) (groups_of world)) first at_setup in
-        let at_units = subst (λ n. FitsUnits (small_setup program 2) (small_first program 2) small_semantics (reverse (take n schedule)) (groups_of world)) (sym units) at_first in
-        let at_trace = subst (λ t. FitsUnits (small_setup program 2) (small_first program 2) small_semantics (reverse (take left.units schedule)) t) (sym trace) at_units in
+        let at_first = subst (λ f. FitsUnits (small_setup program 2 refl) f small_semantics (reverse (take (units_of world) schedule)) (groups_of world)) first at_setup in
+        let at_units = subst (λ n. FitsUnits (small_setup program 2 refl) (small_first program 2) small_semantics (reverse (take n schedule)) (groups_of world)) (sym units) at_first in
+        let at_trace = subst (λ t. FitsUnits (small_setup program 2 refl) (small_first program 2) small_semantics (reverse (take left.units schedule)) t) (sym trace) at_units in
         is_run left.units left.trace (omega (arith, within, units)) at_trace
 
     by_status : (finished : Finished) → RanWhole program schedule left finished → Ran program schedule left (status_of finished)

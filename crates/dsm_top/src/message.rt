@@ -50,7 +50,7 @@ impl Line {
         Ok(())
     }
 
-    pub fn number(&mut self, alloc: Global, number: u32) -> Result<(), MemFault>
+    pub fn number(&mut self, alloc: Global, number: u64) -> Result<(), MemFault>
         ensures { OnOk result (self.new ≡ self.old ++ decimal number) }
     {
         let digits = number.to_string(alloc)?;
@@ -66,7 +66,7 @@ impl Line {
 }
 
 /// A text with a number behind it.
-fn write_number(out: &mut Line, alloc: Global, text: &str, number: u32) -> Result<(), MemFault>
+fn write_number(out: &mut Line, alloc: Global, text: &str, number: u64) -> Result<(), MemFault>
     ensures { OnOk result (out.new ≡ out.old ++ numbered text.now number) }
 {
     out.text(text)?;
@@ -78,7 +78,7 @@ fn write_at(out: &mut Line, alloc: Global, text: &str, line: u32) -> Result<(), 
     ensures { OnOk result (out.new ≡ out.old ++ (text.now ++ at_line line)) }
 {
     out.text(text)?;
-    write_number(out, alloc, ", line ", line)
+    write_number(out, alloc, ", line ", u64::from(line))
 }
 
 /// A name between two texts, with a line of the source behind it.
@@ -123,7 +123,7 @@ fn write_limit(out: &mut Line, alloc: Global, which: Which, count: u32) -> Resul
     out.text("limit ")?;
     out.text(limit_name(which))?;
     out.text(", count ")?;
-    out.number(alloc, count)
+    out.number(alloc, u64::from(count))
 }
 
 fn write_arguments(
@@ -138,9 +138,9 @@ fn write_arguments(
 {
     out.bytes(name.as_slice())?;
     out.text(" takes ")?;
-    out.number(alloc, wanted)?;
+    out.number(alloc, u64::from(wanted))?;
     out.text(", given ")?;
-    out.number(alloc, given)?;
+    out.number(alloc, u64::from(given))?;
     write_at(out, alloc, "", line)
 }
 
@@ -148,15 +148,15 @@ fn write_overlap(out: &mut Line, alloc: Global, cell: u32, line: u32) -> Result<
     ensures { OnOk result (out.new ≡ out.old ++ program_text (ProgErr.BindOverlap cell line)) }
 {
     out.text("cell ")?;
-    out.number(alloc, cell)?;
+    out.number(alloc, u64::from(cell))?;
     write_at(out, alloc, " bound twice", line)
 }
 
 fn write_owner(out: &mut Line, alloc: Global, owner: u32, procs: u8) -> Result<(), MemFault>
     ensures { OnOk result (out.new ≡ out.old ++ program_text (ProgErr.BindOwner owner procs)) }
 {
-    write_number(out, alloc, "owner ", owner)?;
-    write_number(out, alloc, " with ", u32::from(procs))?;
+    write_number(out, alloc, "owner ", u64::from(owner))?;
+    write_number(out, alloc, " with ", u64::from(procs))?;
     out.text(" processors")
 }
 
@@ -202,6 +202,13 @@ fn write_schedule_error(out: &mut Line, alloc: Global, error: SchedErr) -> Resul
     ensures { OnOk result (out.new ≡ out.old ++ schedule_text error) }
 {
     match error {
+        SchedErr::NoProcs => out.text("no procs"),
+        SchedErr::BadEntry { line } => write_at(out, alloc, "bad entry", line),
+        SchedErr::OutOfRange { line } => write_at(out, alloc, "out of range", line),
+        SchedErr::SecondCrash { line } => write_at(out, alloc, "second crash", line),
+        SchedErr::NoCrash { line } => write_at(out, alloc, "no crash", line),
+        SchedErr::TooMany { count } => write_number(out, alloc, "too many units, ", count),
+        SchedErr::TooLong { bytes } => write_number(out, alloc, "too long, ", u64::from(bytes)),
         SchedErr::NotBuilt { line } => write_at(out, alloc, "not built", line),
         SchedErr::Memory => out.text("out of memory"),
     }
