@@ -1,0 +1,364 @@
+-- The pieces of an accepted program.
+use Rattle.std.proofs.Common.{◌≡◌, ℕ, zero, suc, ◌+◌, ◌*◌, ◌≤◌, ◌<◌, Bool, true, false, ◌||◌, ◌&&◌, ltb, leb, eqb, not, List, [], ◌∷◌, ◌++◌, Option, Some, None, IfSome, is_some, Ok, Err, refl, sym, ap, subst, ◌∙◌, append_assoc, true≢false, cond, if◌then◌else◌, arith}
+use Rattle.std.specs.Prelude.{IsTrue, All, AllPairs}
+use Rattle.std.proofs.lemmas.List.{append-nil}
+use Rattle.std.proofs.lemmas.List.Elements.{All-push}
+use Rattle.std.proofs.lemmas.List.Quantifiers.{all_pairs_push}
+use Rattle.std.proofs.lemmas.Bool.{ltb-true, ltb-false, leb-true}
+use Rattle.std.proofs.lemmas.Bool.Decides.{nat_tests}
+use Rattle.std.proofs.Math.Nat.{suc-mul}
+use Rattle.std.proofs.Math.Logic.{∥∥₁_elim}
+use Rattle.std.proofs.Props.{props}
+use Rattle.dsm_base.specs.declared.setup.Piece.{Piece}
+use Rattle.dsm_base.specs.Access.{has_cell, piece_of}
+use Rattle.dsm_syntax.specs.declared.errors.ProgErr.{ProgErr}
+use Rattle.dsm_syntax.specs.declared.errors.ProgErr.TheVariants as err
+use Rattle.dsm_syntax.specs.declared.tree.Name.{Name}
+use Rattle.dsm_syntax.specs.declared.tree.Sharing.{Sharing}
+use Rattle.dsm_syntax.specs.declared.tree.Bind.{Bind}
+use Rattle.dsm_syntax.specs.declared.tree.BindEach.{BindEach}
+use Rattle.dsm_syntax.specs.declared.tree.BindBarrier.{BindBarrier}
+use Rattle.dsm_syntax.specs.Tree as t
+use Rattle.dsm_check.specs.declared.names.Named.{Named}
+use Rattle.dsm_check.specs.declared.resolved.Array.{Array}
+use Rattle.dsm_check.specs.Environments.{Entry, meaning, extent, total, cells_in, locks_in, barriers_in}
+use Rattle.dsm_check.specs.Numbers.{is_numbered, IsThere}
+use Rattle.dsm_check.specs.Bindings.{first_bound, bound, lock_piece, lock_pieces, barrier_piece, is_range, is_rhythm, as_locks, as_size, as_index, as_shared, as_barrier, locks_of, barrier_of, shared_of, with_bind, with_bind_each, with_bind_barrier, with_binding, pieces_of}
+use Rattle.dsm_check.specs.Checks.{Check, ◌>>=◌, each, used, natural}
+use Rattle.dsm_base.specs.declared.setup.Setup.{Setup}
+use Rattle.dsm_check.specs.FileNames.{file_names, main_of, main_name}
+use Rattle.dsm_check.specs.Bodies.{functions_of}
+use Rattle.dsm_check.specs.Programs.{Program, checked}
+use Rattle.dsm_check.specs.Accepted.{IsAccepted}
+use Rattle.dsm_check.specs.Setups.{is_bound_to, AreApart, IsSetup, setup_of}
+use Rattle.dsm_check.proofs.Bounds.{piece_of-more}
+use Rattle.dsm_check.proofs.Numberings.{there, limits}
+
+pub record ArePieces (locks bars cells : ℕ) (pieces : List Piece) : Type 0 where
+  pub within : All (λ piece. piece.first.0 + piece.count ≤ cells) pieces
+  pub bound : All (λ piece. IsTrue (is_bound_to locks bars piece piece.object)) pieces
+  pub apart : AllPairs AreApart pieces
+
+-- no piece has a cell of a range
+abbrev pub IsFree : List Piece → ℕ → ℕ → Type 0
+IsFree pieces first count = (cell : ℕ) → first ≤ cell → cell < first + count → is_some (piece_of pieces cell) ≡ false
+
+pub free : (pieces : List Piece) (first count : ℕ) → first_bound pieces first count ≡ None → IsFree pieces first count
+free pieces first zero h cell low high = absurd (omega (arith, low, high))
+free pieces first (suc count) h cell low high = by (is_some (piece_of pieces first)) refl h (λ none. free pieces (first + 1) count none) (ltb first cell) refl
+  where
+    by : (here : Bool) → is_some (piece_of pieces first) ≡ here → (if here then Some first else first_bound pieces (first + 1) count) ≡ None
+        → (first_bound pieces (first + 1) count ≡ None → IsFree pieces (first + 1) count)
+        → (later : Bool) → ltb first cell ≡ later → is_some (piece_of pieces cell) ≡ false
+    by true e none rest later l = absurd (true≢false (ap is_some none))
+    by false e none rest true l = rest none cell (omega (arith, ltb-true first cell l)) (omega arith)
+    by false e none rest false l =
+        let same : first ≡ cell = omega (arith, ltb-false first cell l) in
+        ap (λ n. is_some (piece_of pieces n)) (sym same) ∙ e
+
+not_in : (pieces : List Piece) (cell : ℕ) → is_some (piece_of pieces cell) ≡ false → All (λ piece. has_cell cell piece ≡ false) pieces
+not_in [] cell h = λ k d below. absurd (omega (arith, below))
+not_in (piece ∷ pieces) cell h = by (has_cell cell piece) refl h (λ gone. not_in pieces cell gone)
+  where
+    by : (here : Bool) → has_cell cell piece ≡ here → is_some (cond here (Some piece) (piece_of pieces cell)) ≡ false
+        → (is_some (piece_of pieces cell) ≡ false → All (λ piece. has_cell cell piece ≡ false) pieces)
+        → All (λ piece. has_cell cell piece ≡ false) (piece ∷ pieces)
+    by true e gone rest k d below = absurd (true≢false gone)
+    by false e gone rest zero d below = e
+    by false e gone rest (suc k) d below = rest gone k d (omega (arith, below))
+
+in_range : (piece : Piece) (cell : ℕ) → has_cell cell piece ≡ true → (piece.first.0 ≤ cell) × (cell < piece.first.0 + piece.count)
+in_range piece cell h = (grind (arith, nat_tests), grind (arith, nat_tests))
+
+pub one : (locks bars cells : ℕ) (pieces : List Piece) (piece : Piece) → ArePieces locks bars cells pieces
+    → piece.first.0 + piece.count ≤ cells → IsTrue (is_bound_to locks bars piece piece.object) → IsFree pieces piece.first.0 piece.count
+    → ArePieces locks bars cells (pieces ++ piece ∷ [])
+one locks bars cells pieces piece before within bound free = record {
+  within = All-push (λ piece. piece.first.0 + piece.count ≤ cells) pieces piece before.within within;
+  bound = All-push (λ piece. IsTrue (is_bound_to locks bars piece piece.object)) pieces piece before.bound bound;
+  apart = all_pairs_push AreApart pieces piece before.apart (λ k d below cell x y.
+      let range = in_range piece cell y in
+      true≢false (sym x ∙ not_in pieces cell (free cell range.0 range.1) k d below));
+}
+
+outside : (piece : Piece) (cell : ℕ) → piece.first.0 + piece.count ≤ cell → is_some (piece_of (piece ∷ []) cell) ≡ false
+outside piece cell h = by (has_cell cell piece) refl
+  where
+    by : (here : Bool) → has_cell cell piece ≡ here → is_some (cond here (Some piece) None) ≡ false
+    by true e = absurd (omega (arith, (in_range piece cell e).1))
+    by false e = refl
+
+-- pieces of one length, one after the other
+pub row : (locks bars cells lock cell count : ℕ) (n : ℕ) (pieces : List Piece) → ArePieces locks bars cells pieces
+    → lock + n ≤ locks → cell + n * count ≤ cells → IsFree pieces cell (n * count)
+    → ArePieces locks bars cells (pieces ++ lock_pieces lock cell count n)
+row locks bars cells lock cell count zero pieces before few within free = subst (ArePieces locks bars cells) (sym (append-nil pieces)) before
+row locks bars cells lock cell count (suc n) pieces before few within free =
+    let all : suc n * count ≡ n * count + count = suc-mul n count in
+    let piece = lock_piece lock cell count in
+    let now = one locks bars cells pieces piece before (omega (arith, within, all)) (grind (arith, nat_tests)) (λ x low high. free x low (omega (arith, high, all))) in
+    let rest : IsFree (pieces ++ piece ∷ []) (cell + count) (n * count) = λ x low high.
+    piece_of-more pieces piece x ∙ ap (λ b. b || is_some (piece_of (piece ∷ []) x)) (free x (omega (arith, low)) (omega (arith, high, all))) ∙ outside piece x low in
+    subst (ArePieces locks bars cells) (append_assoc pieces (piece ∷ []) (lock_pieces (lock + 1) (cell + count) count n))
+    (row locks bars cells (lock + 1) (cell + count) count n (pieces ++ piece ∷ []) now (omega arith) (omega (arith, within, all)) rest)
+
+-- What is known of a check that succeeded.
+
+then_ok : {A B : Type 0} (check : Check A) (next : A → Check B) (b : B) → (check >>= next) ≡ Ok b → (a : A) × (check ≡ Ok a) × (next a ≡ Ok b)
+then_ok (Ok a) next b h = (a, refl, h)
+then_ok (Err e) next b h = absurd (err_not_ok h)
+  where
+    err_not_ok : {C : Type 0} → Err e ≡ Ok b → C
+    err_not_ok h = cc
+
+then_in : {A B R : Type 0} (check : Check A) (next : A → Check B) (b : B) → (check >>= next) ≡ Ok b → ((a : A) → check ≡ Ok a → next a ≡ Ok b → R) → R
+then_in check next b h use_it = let parts = then_ok check next b h in use_it parts.0 parts.1 parts.2
+
+if_ok : {A : Type 0} (test : Bool) (made : Check A) (e : ProgErr) (a : A) → (if test then made else Err e) ≡ Ok a → (test ≡ true) × (made ≡ Ok a)
+if_ok true made e a h = (refl, h)
+if_ok false made e a h = (cc, cc)
+
+pub each_keeps : {A S : Type 0} (P : S → Type 0) (step : S → A → Check S) → ((s : S) (a : A) (t : S) → step s a ≡ Ok t → P s → P t)
+    → (s : S) (all : List A) (t : S) → each step s all ≡ Ok t → P s → P t
+each_keeps {A} {S} P step keeps s [] t h p =
+    let same : s ≡ t = cc in subst P same p
+each_keeps {A} {S} P step keeps s (a ∷ rest) t h p =
+    let first = then_ok (step s a) (λ next. each step next rest) t h in
+    each_keeps P step keeps first.0 rest t first.2 (keeps s a first.0 first.1 p)
+
+bound_ok : (pieces : List Piece) (line cell count : ℕ) (added after : List Piece) → bound pieces line cell count added ≡ Ok after
+    → IsFree pieces cell count × (pieces ++ added ≡ after)
+bound_ok pieces line cell count added after h = by (first_bound pieces cell count) refl h
+  where
+    by : (found : Option ℕ) → first_bound pieces cell count ≡ found
+        → elim found as (λ _. Check (List Piece)) [ None ↦ Ok (pieces ++ added) | Some taken ↦ Err (err.BindOverlap taken line) ] ≡ Ok after
+        → IsFree pieces cell count × (pieces ++ added ≡ after)
+    by None e h = (free pieces cell count e, cc)
+    by (Some taken) e h = cc
+
+-- What names stand for.
+
+used_ok : (names : List Entry) (name : Name) (named : Named) → IsTrue (is_numbered names) → used names name ≡ Ok named → IsThere names named
+used_ok names name named numbered h = by (meaning names name.text) (there names name.text numbered) h
+  where
+    by : (found : Option Named) → IfSome found (IsThere names)
+        → elim found as (λ _. Check Named) [ None ↦ Err (err.Unknown name.text name.line) | Some named ↦ Ok named ] ≡ Ok named → IsThere names named
+    by None fits h = cc
+    by (Some other) fits h = let same : other ≡ named = cc in let P : Named → Type 0 = IsThere names in subst P same fits
+
+locks_there : (names : List Entry) (name : Name) (named : Named) (locks : ℕ × Option ℕ) → IsThere names named → as_locks name named ≡ Ok locks
+    → locks.0 + extent locks.1 ≤ total locks_in names
+locks_there names name (Named.Locks first size) locks there h =
+    let same : (first, size) ≡ locks = cc in
+    let P : ℕ × Option ℕ → Type 0 = λ l. l.0 + extent l.1 ≤ total locks_in names in subst P same there.0
+locks_there names name (Named.Cells sharing first size) locks there h = cc
+locks_there names name (Named.Barrier number) locks there h = cc
+locks_there names name (Named.Function number returns params) locks there h = cc
+locks_there names name (Named.Variable slot) locks there h = cc
+
+shared_there : (names : List Entry) (name : Name) (named : Named) (cells : Array) → IsThere names named → as_shared name named ≡ Ok cells
+    → cells.first + cells.size ≤ total (cells_in Sharing.Shared) names
+shared_there names name (Named.Cells Sharing.Shared first size) cells there h =
+    let same : record { first = first; size = extent size } ≡ cells = cc in
+    let P : Array → Type 0 = λ a. a.first + a.size ≤ total (cells_in Sharing.Shared) names in subst P same there.0
+shared_there names name (Named.Cells Sharing.Private first size) cells there h = cc
+shared_there names name (Named.Locks first size) cells there h = cc
+shared_there names name (Named.Barrier number) cells there h = cc
+shared_there names name (Named.Function number returns params) cells there h = cc
+shared_there names name (Named.Variable slot) cells there h = cc
+
+barrier_there : (names : List Entry) (name : Name) (named : Named) (barrier : ℕ) → IsThere names named → as_barrier name named ≡ Ok barrier
+    → barrier < total barriers_in names
+barrier_there names name (Named.Barrier number) barrier there h =
+    let same : number ≡ barrier = cc in
+    let P : ℕ → Type 0 = λ n. n < total barriers_in names in subst P same there.0
+barrier_there names name (Named.Cells sharing first size) barrier there h = cc
+barrier_there names name (Named.Locks first size) barrier there h = cc
+barrier_there names name (Named.Function number returns params) barrier there h = cc
+barrier_there names name (Named.Variable slot) barrier there h = cc
+
+both_true : (a b : Bool) → (a && b) ≡ true → (a ≡ true) × (b ≡ true)
+both_true true b h = (refl, h)
+both_true false b h = absurd (true≢false (sym h))
+
+a_lock : (lock locks : ℕ) → lock < locks → IsTrue (ltb lock locks && true && true && true)
+a_lock lock locks h = grind (arith, nat_tests)
+
+a_barrier : (barrier barriers first : ℕ) (bind : BindBarrier) → barrier < barriers → is_rhythm bind ≡ true
+    → IsTrue (ltb barrier barriers && ltb (natural bind.phase) (natural bind.period))
+a_barrier barrier barriers first bind h rhythm = grind (arith, nat_tests)
+
+-- Each binding keeps what is known of the pieces.
+
+module _ (names : List Entry) (numbered : IsTrue (is_numbered names)) where
+  abbrev Kept : List Piece → Type 0
+  Kept = ArePieces (total locks_in names) (total barriers_in names) (total (cells_in Sharing.Shared) names)
+
+  locks_ok : (name : Name) (locks : ℕ × Option ℕ) → locks_of names name ≡ Ok locks → locks.0 + extent locks.1 ≤ total locks_in names
+  locks_ok name locks h =
+      let named = then_ok (used names name) (as_locks name) locks h in
+      locks_there names name named.0 locks (used_ok names name named.0 numbered named.1) named.2
+
+  shared_ok : (name : Name) (cells : Array) → shared_of names name ≡ Ok cells → cells.first + cells.size ≤ total (cells_in Sharing.Shared) names
+  shared_ok name cells h =
+      let named = then_ok (used names name) (as_shared name) cells h in
+      shared_there names name named.0 cells (used_ok names name named.0 numbered named.1) named.2
+
+  barrier_ok : (name : Name) (barrier : ℕ) → barrier_of names name ≡ Ok barrier → barrier < total barriers_in names
+  barrier_ok name barrier h =
+      let named = then_ok (used names name) (as_barrier name) barrier h in
+      barrier_there names name named.0 barrier (used_ok names name named.0 numbered named.1) named.2
+
+  range_ok : (cells : Array) (first count : ℕ) → is_range cells first count ≡ true → first + count ≤ cells.size
+  range_ok cells first count h = grind (arith, nat_tests)
+
+  bind_last : (pieces : List Piece) (bind : Bind) (after : List Piece) (locks : ℕ × Option ℕ) (index : ℕ) (cells : Array)
+      → locks.0 + extent locks.1 ≤ total locks_in names → cells.first + cells.size ≤ total (cells_in Sharing.Shared) names
+      → (if ltb index (extent locks.1) && is_range cells (natural bind.first) (natural bind.count)
+      then bound pieces bind.line (cells.first + natural bind.first) (natural bind.count) (lock_piece (locks.0 + index) (cells.first + natural bind.first) (natural bind.count) ∷ [])
+      else Err (err.BindRange bind.line)) ≡ Ok after
+      → Kept pieces → Kept after
+  bind_last pieces bind after locks index cells few within h before =
+      let first = cells.first + natural bind.first in
+      let count = natural bind.count in
+      let piece = lock_piece (locks.0 + index) first count in
+      let passed = if_ok (ltb index (extent locks.1) && is_range cells (natural bind.first) count) (bound pieces bind.line first count (piece ∷ [])) (err.BindRange bind.line) after h in
+      let tests = both_true (ltb index (extent locks.1)) (is_range cells (natural bind.first) count) passed.0 in
+      let range = range_ok cells (natural bind.first) count tests.1 in
+      let below = ltb-true index (extent locks.1) tests.0 in
+      let added = bound_ok pieces bind.line first count (piece ∷ []) after passed.1 in
+      let is_lock : locks.0 + index < total locks_in names = omega (arith, below, few) in
+      subst Kept added.1 (one (total locks_in names) (total barriers_in names) (total (cells_in Sharing.Shared) names) pieces piece before
+      (omega (arith, range, within)) (a_lock (locks.0 + index) (total locks_in names) is_lock) added.0)
+
+  bind_keeps : (pieces : List Piece) (bind : Bind) (after : List Piece) → with_bind names pieces bind ≡ Ok after → Kept pieces → Kept after
+  bind_keeps pieces bind after h before =
+      then_in (locks_of names bind.lock) _ after h (λ locks e1 h1.
+      then_in (as_index bind.lock locks.1 bind.index) _ after h1 (λ index e2 h2.
+      then_in (shared_of names bind.data) _ after h2 (λ cells e3 h3.
+      bind_last pieces bind after locks index cells (locks_ok bind.lock locks e1) (shared_ok bind.data cells e3) h3 before)))
+
+  each_last : (pieces : List Piece) (bind : BindEach) (after : List Piece) (locks : ℕ × Option ℕ) (size : ℕ) (cells : Array)
+      → locks.0 + size ≤ total locks_in names → cells.first + cells.size ≤ total (cells_in Sharing.Shared) names
+      → (if not (eqb (natural bind.count) 0) && leb (size * natural bind.count) cells.size
+      then bound pieces bind.line cells.first (size * natural bind.count) (lock_pieces locks.0 cells.first (natural bind.count) size)
+      else Err (err.BindRange bind.line)) ≡ Ok after
+      → Kept pieces → Kept after
+  each_last pieces bind after locks size cells few within h before =
+      let count = natural bind.count in
+      let row_of_all = lock_pieces locks.0 cells.first count size in
+      let passed = if_ok (not (eqb count 0) && leb (size * count) cells.size) (bound pieces bind.line cells.first (size * count) row_of_all) (err.BindRange bind.line) after h in
+      let tests = both_true (not (eqb count 0)) (leb (size * count) cells.size) passed.0 in
+      let range = leb-true (size * count) cells.size tests.1 in
+      let added = bound_ok pieces bind.line cells.first (size * count) row_of_all after passed.1 in
+      subst Kept added.1 (row (total locks_in names) (total barriers_in names) (total (cells_in Sharing.Shared) names) locks.0 cells.first count size pieces before
+      few (omega (arith, range, within)) added.0)
+
+  size_ok : (name : Name) (size : Option ℕ) (n : ℕ) → as_size name size ≡ Ok n → n ≡ extent size
+  size_ok name None n h = cc
+  size_ok name (Some size) n h = cc
+
+  bind_each_keeps : (pieces : List Piece) (bind : BindEach) (after : List Piece) → with_bind_each names pieces bind ≡ Ok after → Kept pieces → Kept after
+  bind_each_keeps pieces bind after h before =
+      then_in (locks_of names bind.locks) _ after h (λ locks e1 h1.
+      then_in (as_size bind.locks locks.1) _ after h1 (λ size e2 h2.
+      then_in (shared_of names bind.data) _ after h2 (λ cells e3 h3.
+      each_last pieces bind after locks size cells (omega (arith, size_ok bind.locks locks.1 size e2, locks_ok bind.locks locks e1)) (shared_ok bind.data cells e3) h3 before)))
+
+  barrier_last : (pieces : List Piece) (bind : BindBarrier) (after : List Piece) (barrier : ℕ) (cells : Array)
+      → barrier < total barriers_in names → cells.first + cells.size ≤ total (cells_in Sharing.Shared) names
+      → (if is_range cells (natural bind.first) (natural bind.count) && is_rhythm bind
+      then bound pieces bind.line (cells.first + natural bind.first) (natural bind.count) (barrier_piece barrier (cells.first + natural bind.first) bind ∷ [])
+      else Err (err.BindRange bind.line)) ≡ Ok after
+      → Kept pieces → Kept after
+  barrier_last pieces bind after barrier cells few within h before =
+      let first = cells.first + natural bind.first in
+      let count = natural bind.count in
+      let piece = barrier_piece barrier first bind in
+      let passed = if_ok (is_range cells (natural bind.first) count && is_rhythm bind) (bound pieces bind.line first count (piece ∷ [])) (err.BindRange bind.line) after h in
+      let tests = both_true (is_range cells (natural bind.first) count) (is_rhythm bind) passed.0 in
+      let range = range_ok cells (natural bind.first) count tests.0 in
+      let added = bound_ok pieces bind.line first count (piece ∷ []) after passed.1 in
+      subst Kept added.1 (one (total locks_in names) (total barriers_in names) (total (cells_in Sharing.Shared) names) pieces piece before
+      (omega (arith, range, within)) (a_barrier barrier (total barriers_in names) first bind few tests.1) added.0)
+
+  bind_barrier_keeps : (pieces : List Piece) (bind : BindBarrier) (after : List Piece) → with_bind_barrier names pieces bind ≡ Ok after → Kept pieces → Kept after
+  bind_barrier_keeps pieces bind after h before =
+      then_in (barrier_of names bind.barrier) _ after h (λ barrier e1 h1.
+      then_in (shared_of names bind.data) _ after h1 (λ cells e2 h2.
+      barrier_last pieces bind after barrier cells (barrier_ok bind.barrier barrier e1) (shared_ok bind.data cells e2) h2 before))
+
+  same_pieces : (pieces after : List Piece) (now : Check (List Piece)) → now ≡ Ok pieces → now ≡ Ok after → Kept pieces → Kept after
+  same_pieces pieces after now unchanged h before = let same : pieces ≡ after = cc in subst Kept same before
+
+  item_keeps : (pieces : List Piece) (item : t.Item) (after : List Piece) → with_binding names pieces item ≡ Ok after → Kept pieces → Kept after
+  item_keeps pieces (t.bind bind) after h before = bind_keeps pieces bind after h before
+  item_keeps pieces (t.bind_each bind) after h before = bind_each_keeps pieces bind after h before
+  item_keeps pieces (t.bind_barrier bind) after h before = bind_barrier_keeps pieces bind after h before
+  item_keeps pieces (t.cells sharing cells) after h before = same_pieces pieces after (Ok pieces) refl h before
+  item_keeps pieces (t.locks locks) after h before = same_pieces pieces after (Ok pieces) refl h before
+  item_keeps pieces (t.barriers barriers) after h before = same_pieces pieces after (Ok pieces) refl h before
+  item_keeps pieces (t.function function) after h before = same_pieces pieces after (Ok pieces) refl h before
+
+  -- the pieces of a program whose names are numbered
+  pub kept : (items : List t.Item) (pieces : List Piece) → pieces_of names items ≡ Ok pieces
+      → ArePieces (total locks_in names) (total barriers_in names) (total (cells_in Sharing.Shared) names) pieces
+  kept items pieces h =
+      each_keeps Kept (with_binding names) item_keeps [] items pieces h (record {
+        within = λ k d below. absurd (omega (arith, below));
+        bound = λ k d below. absurd (omega (arith, below));
+        apart = λ i j d low below. absurd (omega (arith, below));
+      })
+
+-- An accepted program is set up as it has to be.
+
+set_up : (items : List t.Item) (program : Program) (procs : ℕ) → IsTrue (is_numbered program.names) → 2 ≤ procs → procs ≤ 16
+    → checked items ≡ Ok program → IsSetup (setup_of program procs)
+set_up items program procs numbered some few h =
+    then_in (file_names items) _ program h (λ names e1 h1.
+    then_in (main_of (meaning names main_name)) _ program h1 (λ main e2 h2.
+    then_in (pieces_of names items) _ program h2 (λ pieces e3 h3.
+    then_in (functions_of names items) _ program h3 (λ functions e4 h4.
+    let made : Program = record {
+      names = names;
+      main = main;
+      shared_cells = total (cells_in Sharing.Shared) names;
+      private_cells = total (cells_in Sharing.Private) names;
+      locks = total locks_in names;
+      barriers = total barriers_in names;
+      pieces = pieces;
+      functions = functions;
+    } in
+    let same : made ≡ program = cc in
+    let P : Program → Type 0 = λ p. IsTrue (is_numbered p.names) → IsSetup (setup_of p procs) in
+    subst P same (λ all_numbered. whole made procs all_numbered some few pieces (kept names all_numbered items pieces e3) refl refl refl refl) numbered))))
+  where
+    whole : (p : Program) (procs : ℕ) → IsTrue (is_numbered p.names) → 2 ≤ procs → procs ≤ 16 → (pieces : List Piece)
+        → ArePieces (total locks_in p.names) (total barriers_in p.names) (total (cells_in Sharing.Shared) p.names) pieces
+        → p.pieces ≡ pieces → p.locks ≡ total locks_in p.names → p.barriers ≡ total barriers_in p.names
+        → p.shared_cells ≡ total (cells_in Sharing.Shared) p.names → IsSetup (setup_of p procs)
+    whole p procs all_numbered some few pieces are e1 e2 e3 e4 =
+        let most = limits p.names all_numbered in
+        let Q : List Piece → Type 0 = ArePieces p.locks p.barriers p.shared_cells in
+        let R : ℕ → Type 0 = λ n. ArePieces n (total barriers_in p.names) (total (cells_in Sharing.Shared) p.names) pieces in
+        let S : ℕ → Type 0 = λ n. ArePieces p.locks n (total (cells_in Sharing.Shared) p.names) pieces in
+        let U : ℕ → Type 0 = λ n. ArePieces p.locks p.barriers n pieces in
+        let all : ArePieces p.locks p.barriers p.shared_cells p.pieces = subst Q (sym e1) (subst U (sym e4) (subst S (sym e3) (subst R (sym e2) are))) in
+        record {
+          some_procs = some;
+          few_procs = few;
+          few_locks = omega (arith, e2, most.locks);
+          few_bars = omega (arith, e3, most.barriers);
+          few_cells = omega (arith, e4, most.shared);
+          within = all.within;
+          bound = all.bound;
+          apart = all.apart;
+        }
+
+IsSetup-prop : (setup : Setup) → IsProp (IsSetup setup)
+IsSetup-prop setup = hlevel props
+
+pub setting : (program : Program) (procs : ℕ) → IsTrue (is_numbered program.names) → 2 ≤ procs → procs ≤ 16
+    → ∥ IsAccepted program ∥₁ → IsSetup (setup_of program procs)
+setting program procs numbered some few accepted =
+    ∥∥₁_elim accepted (IsSetup-prop (setup_of program procs)) (λ (a : IsAccepted program). set_up a.0 program procs numbered some few a.2)
