@@ -1,9 +1,8 @@
 -- The pieces of an accepted program.
 use Rattle.std.proofs.Common.{◌≡◌, ℕ, zero, suc, ◌+◌, ◌*◌, ◌≤◌, ◌<◌, Bool, true, false, ◌||◌, ◌&&◌, ltb, leb, eqb, not, List, [], ◌∷◌, ◌++◌, Option, Some, None, IfSome, is_some, Ok, Err, refl, sym, ap, subst, ◌∙◌, append_assoc, true≢false, cond, if◌then◌else◌, arith}
-use Rattle.std.specs.Prelude.{IsTrue, All, AllPairs}
+use Rattle.std.specs.Prelude.{IsTrue}
+use Rattle.std.specs.List.{list_all}
 use Rattle.std.proofs.lemmas.List.{append-nil}
-use Rattle.std.proofs.lemmas.List.Elements.{All-push}
-use Rattle.std.proofs.lemmas.List.Quantifiers.{all_pairs_push}
 use Rattle.std.proofs.lemmas.Bool.{ltb-true, ltb-false, leb-true}
 use Rattle.std.proofs.lemmas.Bool.Decides.{nat_tests}
 use Rattle.std.proofs.Math.Nat.{suc-mul}
@@ -25,106 +24,14 @@ use Rattle.dsm_check.specs.Environments.{Entry, meaning, extent, total, cells_in
 use Rattle.dsm_check.specs.Numbers.{is_numbered, IsThere}
 use Rattle.dsm_check.specs.Bindings.{first_bound, bound, lock_piece, lock_pieces, barrier_piece, is_range, is_rhythm, as_locks, as_size, as_index, as_shared, as_barrier, locks_of, barrier_of, shared_of, with_bind, with_bind_each, with_bind_barrier, with_binding, pieces_of}
 use Rattle.dsm_check.specs.Checks.{Check, ◌>>=◌, each, used, natural}
-use Rattle.dsm_base.specs.declared.setup.Setup.{Setup}
+use Rattle.dsm_base.specs.Setups.{is_proc_count, are_counts, is_piece, are_apart, is_setup}
 use Rattle.dsm_check.specs.FileNames.{file_names, main_of, main_name}
 use Rattle.dsm_check.specs.Bodies.{functions_of}
 use Rattle.dsm_check.specs.Programs.{Program, checked}
 use Rattle.dsm_check.specs.Accepted.{IsAccepted}
-use Rattle.dsm_check.specs.Setups.{is_bound_to, AreApart, IsSetup, setup_of}
-use Rattle.dsm_check.proofs.Bounds.{piece_of-more}
+use Rattle.dsm_check.proofs.Apart.{ArePieces, IsFree, free, one, row, lock_piece_is, both}
+use Rattle.dsm_check.proofs.Successes.{then_ok, then_in, if_ok, each_keeps, both_true}
 use Rattle.dsm_check.proofs.Numberings.{there, limits}
-
-pub record ArePieces (locks bars cells : ℕ) (pieces : List Piece) : Type 0 where
-  pub within : All (λ piece. piece.first.0 + piece.count ≤ cells) pieces
-  pub bound : All (λ piece. IsTrue (is_bound_to locks bars piece piece.object)) pieces
-  pub apart : AllPairs AreApart pieces
-
--- no piece has a cell of a range
-abbrev pub IsFree : List Piece → ℕ → ℕ → Type 0
-IsFree pieces first count = (cell : ℕ) → first ≤ cell → cell < first + count → is_some (piece_of pieces cell) ≡ false
-
-pub free : (pieces : List Piece) (first count : ℕ) → first_bound pieces first count ≡ None → IsFree pieces first count
-free pieces first zero h cell low high = absurd (omega (arith, low, high))
-free pieces first (suc count) h cell low high = by (is_some (piece_of pieces first)) refl h (λ none. free pieces (first + 1) count none) (ltb first cell) refl
-  where
-    by : (here : Bool) → is_some (piece_of pieces first) ≡ here → (if here then Some first else first_bound pieces (first + 1) count) ≡ None
-        → (first_bound pieces (first + 1) count ≡ None → IsFree pieces (first + 1) count)
-        → (later : Bool) → ltb first cell ≡ later → is_some (piece_of pieces cell) ≡ false
-    by true e none rest later l = absurd (true≢false (ap is_some none))
-    by false e none rest true l = rest none cell (omega (arith, ltb-true first cell l)) (omega arith)
-    by false e none rest false l =
-        let same : first ≡ cell = omega (arith, ltb-false first cell l) in
-        ap (λ n. is_some (piece_of pieces n)) (sym same) ∙ e
-
-not_in : (pieces : List Piece) (cell : ℕ) → is_some (piece_of pieces cell) ≡ false → All (λ piece. has_cell cell piece ≡ false) pieces
-not_in [] cell h = λ k d below. absurd (omega (arith, below))
-not_in (piece ∷ pieces) cell h = by (has_cell cell piece) refl h (λ gone. not_in pieces cell gone)
-  where
-    by : (here : Bool) → has_cell cell piece ≡ here → is_some (cond here (Some piece) (piece_of pieces cell)) ≡ false
-        → (is_some (piece_of pieces cell) ≡ false → All (λ piece. has_cell cell piece ≡ false) pieces)
-        → All (λ piece. has_cell cell piece ≡ false) (piece ∷ pieces)
-    by true e gone rest k d below = absurd (true≢false gone)
-    by false e gone rest zero d below = e
-    by false e gone rest (suc k) d below = rest gone k d (omega (arith, below))
-
-in_range : (piece : Piece) (cell : ℕ) → has_cell cell piece ≡ true → (piece.first.0 ≤ cell) × (cell < piece.first.0 + piece.count)
-in_range piece cell h = (grind (arith, nat_tests), grind (arith, nat_tests))
-
-pub one : (locks bars cells : ℕ) (pieces : List Piece) (piece : Piece) → ArePieces locks bars cells pieces
-    → piece.first.0 + piece.count ≤ cells → IsTrue (is_bound_to locks bars piece piece.object) → IsFree pieces piece.first.0 piece.count
-    → ArePieces locks bars cells (pieces ++ piece ∷ [])
-one locks bars cells pieces piece before within bound free = record {
-  within = All-push (λ piece. piece.first.0 + piece.count ≤ cells) pieces piece before.within within;
-  bound = All-push (λ piece. IsTrue (is_bound_to locks bars piece piece.object)) pieces piece before.bound bound;
-  apart = all_pairs_push AreApart pieces piece before.apart (λ k d below cell x y.
-      let range = in_range piece cell y in
-      true≢false (sym x ∙ not_in pieces cell (free cell range.0 range.1) k d below));
-}
-
-outside : (piece : Piece) (cell : ℕ) → piece.first.0 + piece.count ≤ cell → is_some (piece_of (piece ∷ []) cell) ≡ false
-outside piece cell h = by (has_cell cell piece) refl
-  where
-    by : (here : Bool) → has_cell cell piece ≡ here → is_some (cond here (Some piece) None) ≡ false
-    by true e = absurd (omega (arith, (in_range piece cell e).1))
-    by false e = refl
-
--- pieces of one length, one after the other
-pub row : (locks bars cells lock cell count : ℕ) (n : ℕ) (pieces : List Piece) → ArePieces locks bars cells pieces
-    → lock + n ≤ locks → cell + n * count ≤ cells → IsFree pieces cell (n * count)
-    → ArePieces locks bars cells (pieces ++ lock_pieces lock cell count n)
-row locks bars cells lock cell count zero pieces before few within free = subst (ArePieces locks bars cells) (sym (append-nil pieces)) before
-row locks bars cells lock cell count (suc n) pieces before few within free =
-    let all : suc n * count ≡ n * count + count = suc-mul n count in
-    let piece = lock_piece lock cell count in
-    let now = one locks bars cells pieces piece before (omega (arith, within, all)) (grind (arith, nat_tests)) (λ x low high. free x low (omega (arith, high, all))) in
-    let rest : IsFree (pieces ++ piece ∷ []) (cell + count) (n * count) = λ x low high.
-    piece_of-more pieces piece x ∙ ap (λ b. b || is_some (piece_of (piece ∷ []) x)) (free x (omega (arith, low)) (omega (arith, high, all))) ∙ outside piece x low in
-    subst (ArePieces locks bars cells) (append_assoc pieces (piece ∷ []) (lock_pieces (lock + 1) (cell + count) count n))
-    (row locks bars cells (lock + 1) (cell + count) count n (pieces ++ piece ∷ []) now (omega arith) (omega (arith, within, all)) rest)
-
--- What is known of a check that succeeded.
-
-then_ok : {A B : Type 0} (check : Check A) (next : A → Check B) (b : B) → (check >>= next) ≡ Ok b → (a : A) × (check ≡ Ok a) × (next a ≡ Ok b)
-then_ok (Ok a) next b h = (a, refl, h)
-then_ok (Err e) next b h = absurd (err_not_ok h)
-  where
-    err_not_ok : {C : Type 0} → Err e ≡ Ok b → C
-    err_not_ok h = cc
-
-then_in : {A B R : Type 0} (check : Check A) (next : A → Check B) (b : B) → (check >>= next) ≡ Ok b → ((a : A) → check ≡ Ok a → next a ≡ Ok b → R) → R
-then_in check next b h use_it = let parts = then_ok check next b h in use_it parts.0 parts.1 parts.2
-
-if_ok : {A : Type 0} (test : Bool) (made : Check A) (e : ProgErr) (a : A) → (if test then made else Err e) ≡ Ok a → (test ≡ true) × (made ≡ Ok a)
-if_ok true made e a h = (refl, h)
-if_ok false made e a h = (cc, cc)
-
-pub each_keeps : {A S : Type 0} (P : S → Type 0) (step : S → A → Check S) → ((s : S) (a : A) (t : S) → step s a ≡ Ok t → P s → P t)
-    → (s : S) (all : List A) (t : S) → each step s all ≡ Ok t → P s → P t
-each_keeps {A} {S} P step keeps s [] t h p =
-    let same : s ≡ t = cc in subst P same p
-each_keeps {A} {S} P step keeps s (a ∷ rest) t h p =
-    let first = then_ok (step s a) (λ next. each step next rest) t h in
-    each_keeps P step keeps first.0 rest t first.2 (keeps s a first.0 first.1 p)
 
 bound_ok : (pieces : List Piece) (line cell count : ℕ) (added after : List Piece) → bound pieces line cell count added ≡ Ok after
     → IsFree pieces cell count × (pieces ++ added ≡ after)
@@ -177,16 +84,12 @@ barrier_there names name (Named.Locks first size) barrier there h = cc
 barrier_there names name (Named.Function number returns params) barrier there h = cc
 barrier_there names name (Named.Variable slot) barrier there h = cc
 
-both_true : (a b : Bool) → (a && b) ≡ true → (a ≡ true) × (b ≡ true)
-both_true true b h = (refl, h)
-both_true false b h = absurd (true≢false (sym h))
+a_barrier : (locks barriers cells barrier first : ℕ) (bind : BindBarrier) → barrier < barriers → first + natural bind.count ≤ cells → is_rhythm bind ≡ true
+    → is_piece locks barriers cells (barrier_piece barrier first bind) ≡ true
+a_barrier locks barriers cells barrier first bind few within rhythm = grind (arith, nat_tests)
 
-a_lock : (lock locks : ℕ) → lock < locks → IsTrue (ltb lock locks && true && true && true)
-a_lock lock locks h = grind (arith, nat_tests)
-
-a_barrier : (barrier barriers first : ℕ) (bind : BindBarrier) → barrier < barriers → is_rhythm bind ≡ true
-    → IsTrue (ltb barrier barriers && ltb (natural bind.phase) (natural bind.period))
-a_barrier barrier barriers first bind h rhythm = grind (arith, nat_tests)
+counts : (procs locks bars cells : ℕ) → IsTrue (is_proc_count procs) → locks ≤ 256 → bars ≤ 64 → cells ≤ 65536 → are_counts procs locks bars cells ≡ true
+counts procs locks bars cells fits h1 h2 h3 = grind (arith, nat_tests)
 
 -- Each binding keeps what is known of the pieces.
 
@@ -229,7 +132,7 @@ module _ (names : List Entry) (numbered : IsTrue (is_numbered names)) where
       let added = bound_ok pieces bind.line first count (piece ∷ []) after passed.1 in
       let is_lock : locks.0 + index < total locks_in names = omega (arith, below, few) in
       subst Kept added.1 (one (total locks_in names) (total barriers_in names) (total (cells_in Sharing.Shared) names) pieces piece before
-      (omega (arith, range, within)) (a_lock (locks.0 + index) (total locks_in names) is_lock) added.0)
+      (lock_piece_is (total locks_in names) (total barriers_in names) (total (cells_in Sharing.Shared) names) (locks.0 + index) first count is_lock (omega (arith, range, within))) added.0)
 
   bind_keeps : (pieces : List Piece) (bind : Bind) (after : List Piece) → with_bind names pieces bind ≡ Ok after → Kept pieces → Kept after
   bind_keeps pieces bind after h before =
@@ -280,7 +183,7 @@ module _ (names : List Entry) (numbered : IsTrue (is_numbered names)) where
       let range = range_ok cells (natural bind.first) count tests.0 in
       let added = bound_ok pieces bind.line first count (piece ∷ []) after passed.1 in
       subst Kept added.1 (one (total locks_in names) (total barriers_in names) (total (cells_in Sharing.Shared) names) pieces piece before
-      (omega (arith, range, within)) (a_barrier barrier (total barriers_in names) first bind few tests.1) added.0)
+      (a_barrier (total locks_in names) (total barriers_in names) (total (cells_in Sharing.Shared) names) barrier first bind few (omega (arith, range, within)) tests.1) added.0)
 
   bind_barrier_keeps : (pieces : List Piece) (bind : BindBarrier) (after : List Piece) → with_bind_barrier names pieces bind ≡ Ok after → Kept pieces → Kept after
   bind_barrier_keeps pieces bind after h before =
@@ -304,17 +207,13 @@ module _ (names : List Entry) (numbered : IsTrue (is_numbered names)) where
   pub kept : (items : List t.Item) (pieces : List Piece) → pieces_of names items ≡ Ok pieces
       → ArePieces (total locks_in names) (total barriers_in names) (total (cells_in Sharing.Shared) names) pieces
   kept items pieces h =
-      each_keeps Kept (with_binding names) item_keeps [] items pieces h (record {
-        within = λ k d below. absurd (omega (arith, below));
-        bound = λ k d below. absurd (omega (arith, below));
-        apart = λ i j d low below. absurd (omega (arith, below));
-      })
+      each_keeps Kept (with_binding names) item_keeps [] items pieces h (record { each = refl; apart = refl })
 
 -- An accepted program is set up as it has to be.
 
-set_up : (items : List t.Item) (program : Program) (procs : ℕ) → IsTrue (is_numbered program.names) → 2 ≤ procs → procs ≤ 16
-    → checked items ≡ Ok program → IsSetup (setup_of program procs)
-set_up items program procs numbered some few h =
+set_up : (items : List t.Item) (program : Program) (procs : ℕ) → IsTrue (is_numbered program.names) → IsTrue (is_proc_count procs)
+    → checked items ≡ Ok program → IsTrue (is_setup procs program.locks program.barriers program.shared_cells program.pieces)
+set_up items program procs numbered fits h =
     then_in (file_names items) _ program h (λ names e1 h1.
     then_in (main_of (meaning names main_name)) _ program h1 (λ main e2 h2.
     then_in (pieces_of names items) _ program h2 (λ pieces e3 h3.
@@ -330,35 +229,19 @@ set_up items program procs numbered some few h =
       functions = functions;
     } in
     let same : made ≡ program = cc in
-    let P : Program → Type 0 = λ p. IsTrue (is_numbered p.names) → IsSetup (setup_of p procs) in
-    subst P same (λ all_numbered. whole made procs all_numbered some few pieces (kept names all_numbered items pieces e3) refl refl refl refl) numbered))))
+    let P : Program → Type 0 = λ p. IsTrue (is_numbered p.names) → IsTrue (is_setup procs p.locks p.barriers p.shared_cells p.pieces) in
+    subst P same (λ all_numbered. whole procs names fits all_numbered pieces (kept names all_numbered items pieces e3)) numbered))))
   where
-    whole : (p : Program) (procs : ℕ) → IsTrue (is_numbered p.names) → 2 ≤ procs → procs ≤ 16 → (pieces : List Piece)
-        → ArePieces (total locks_in p.names) (total barriers_in p.names) (total (cells_in Sharing.Shared) p.names) pieces
-        → p.pieces ≡ pieces → p.locks ≡ total locks_in p.names → p.barriers ≡ total barriers_in p.names
-        → p.shared_cells ≡ total (cells_in Sharing.Shared) p.names → IsSetup (setup_of p procs)
-    whole p procs all_numbered some few pieces are e1 e2 e3 e4 =
-        let most = limits p.names all_numbered in
-        let Q : List Piece → Type 0 = ArePieces p.locks p.barriers p.shared_cells in
-        let R : ℕ → Type 0 = λ n. ArePieces n (total barriers_in p.names) (total (cells_in Sharing.Shared) p.names) pieces in
-        let S : ℕ → Type 0 = λ n. ArePieces p.locks n (total (cells_in Sharing.Shared) p.names) pieces in
-        let U : ℕ → Type 0 = λ n. ArePieces p.locks p.barriers n pieces in
-        let all : ArePieces p.locks p.barriers p.shared_cells p.pieces = subst Q (sym e1) (subst U (sym e4) (subst S (sym e3) (subst R (sym e2) are))) in
-        record {
-          some_procs = some;
-          few_procs = few;
-          few_locks = omega (arith, e2, most.locks);
-          few_bars = omega (arith, e3, most.barriers);
-          few_cells = omega (arith, e4, most.shared);
-          within = all.within;
-          bound = all.bound;
-          apart = all.apart;
-        }
+    whole : (procs : ℕ) (names : List Entry) → IsTrue (is_proc_count procs) → IsTrue (is_numbered names) → (pieces : List Piece)
+        → ArePieces (total locks_in names) (total barriers_in names) (total (cells_in Sharing.Shared) names) pieces
+        → IsTrue (is_setup procs (total locks_in names) (total barriers_in names) (total (cells_in Sharing.Shared) names) pieces)
+    whole procs names fits all_numbered pieces are =
+        let most = limits names all_numbered in
+        both (are_counts procs (total locks_in names) (total barriers_in names) (total (cells_in Sharing.Shared) names)) _
+            (counts procs (total locks_in names) (total barriers_in names) (total (cells_in Sharing.Shared) names) fits most.locks most.barriers most.shared)
+            (both (list_all (is_piece (total locks_in names) (total barriers_in names) (total (cells_in Sharing.Shared) names)) pieces) (are_apart pieces) are.each are.apart)
 
-IsSetup-prop : (setup : Setup) → IsProp (IsSetup setup)
-IsSetup-prop setup = hlevel props
-
-pub setting : (program : Program) (procs : ℕ) → IsTrue (is_numbered program.names) → 2 ≤ procs → procs ≤ 16
-    → ∥ IsAccepted program ∥₁ → IsSetup (setup_of program procs)
-setting program procs numbered some few accepted =
-    ∥∥₁_elim accepted (IsSetup-prop (setup_of program procs)) (λ (a : IsAccepted program). set_up a.0 program procs numbered some few a.2)
+pub setting : (program : Program) (procs : ℕ) → IsTrue (is_numbered program.names) → IsTrue (is_proc_count procs)
+    → ∥ IsAccepted program ∥₁ → IsTrue (is_setup procs program.locks program.barriers program.shared_cells program.pieces)
+setting program procs numbered fits accepted =
+    ∥∥₁_elim accepted (hlevel props) (λ (a : IsAccepted program). set_up a.0 program procs numbered fits a.2)

@@ -23,9 +23,10 @@ pub struct Checked {
 }
 
 impl Checked {
-    ghost use Rattle.std.specs.Prelude.{◌≡◌, ◌≤◌, map, IfOk};
+    ghost use Rattle.std.specs.Prelude.{◌≡◌, map, IsTrue, IfOk};
+    ghost use Rattle.dsm_base.specs.Setups.{is_proc_count};
     ghost use Rattle.dsm_check.specs.Views.{view_function};
-    ghost use Rattle.dsm_check.specs.Setups.{setup_of, IsSetup};
+    ghost use Rattle.dsm_check.specs.Setups.{IsSetupOf};
     ghost use Rattle.dsm_check.specs.FileTables.{names_of};
     ghost use Rattle.dsm_check.specs.CheckedViews.{program_of};
 
@@ -85,12 +86,10 @@ impl Checked {
         self.functions.as_slice()
     }
 
-    /// How the program is set up for so many processors.
+    /// How the program is set up for 2 to 16 processors.
     pub fn setup(&self, alloc: Global, procs: u8) -> Result<Setup, MemFault>
-        requires some { 2 ≤ procs }
-        requires few { procs ≤ 16 }
-        ensures value { IfOk result (λ setup. setup ≡ setup_of (program_of self.now) procs) }
-        ensures kept { IfOk result IsSetup }
+        requires { IsTrue (is_proc_count procs) }
+        ensures { IfOk result (IsSetupOf (program_of self.now) procs) }
     {
         Ok(Setup {
             procs,

@@ -1,15 +1,13 @@
-use Rattle.std.proofs.Common.{◌≡◌, List, sym, ap, subst, ◌∙◌}
+use Rattle.std.proofs.Common.{List, sym, subst, ◌∙◌}
+use Rattle.std.specs.Prelude.{IsTrue}
 use Rattle.dsm_base.specs.declared.setup.Piece.{Piece}
-use Rattle.dsm_base.specs.declared.setup.Setup.{Setup}
-use Rattle.dsm_check.specs.Setups.{IsSetup, setup_of}
+use Rattle.dsm_base.specs.Setups.{is_setup}
 use Rattle.dsm_check.specs.CheckedViews.{program_of}
 use Rattle.dsm_check.proofs.Settings.{setting}
 use Rattle.dsm_check.proofs.checked.Checked.setup.Goals as goal
 
-pub returns-clause-kept : goal.returns-clause-kept
-returns-clause-kept c =
+pub invariant_of-result : goal.invariant_of-result
+invariant_of-result c =
     let checked = c.args.self.now in
-    let P : Setup → Type 0 = λ s. IsSetup s in
-    let same : setup_of (program_of checked) c.args.procs ≡ record (setup_of (program_of checked) c.args.procs) { bindings = c.in_ok-from_slice.field-0 }
-    = ap (λ (pieces : List Piece). record (setup_of (program_of checked) c.args.procs) { bindings = pieces }) (sym (c.in_ok-from_slice.ensures ∙ c.as_slice.ensures)) in
-    subst P same (setting (program_of checked) c.args.procs checked.names.numbered c.requires.some c.requires.few checked.accepted)
+    let P : List Piece → Type 0 = λ pieces. IsTrue (is_setup c.args.procs checked.locks checked.barriers checked.shared_cells pieces) in
+    record { kept = subst P (sym (c.in_ok-from_slice.ensures ∙ c.as_slice.ensures)) (setting (program_of checked) c.args.procs checked.names.numbered c.requires checked.accepted) }
