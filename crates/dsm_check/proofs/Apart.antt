@@ -1,5 +1,5 @@
 -- Pieces of which no cell is in two.
-use Rattle.std.proofs.Common.{◌≡◌, ℕ, zero, suc, ◌+◌, ◌*◌, ◌≤◌, ◌<◌, min, max, Bool, true, false, ◌||◌, ◌&&◌, ltb, leb, List, [], ◌∷◌, ◌++◌, Option, Some, None, is_some, refl, sym, ap, subst, ◌∙◌, append_assoc, true≢false, cond, if◌then◌else◌, arith}
+use Rattle.std.proofs.Common.{◌≡◌, ℕ, zero, suc, ◌+◌, ◌*◌, ◌≤◌, ◌<◌, min, max, Bool, true, false, ◌||◌, ◌&&◌, ltb, List, [], ◌∷◌, ◌++◌, Some, None, is_some, refl, sym, ap, subst, ◌∙◌, append_assoc, true≢false, cond, if◌then◌else◌, arith}
 use Rattle.std.specs.List.{list_all}
 use Rattle.std.proofs.lemmas.List.{append-nil}
 use Rattle.std.proofs.lemmas.Bool.{lt-ltb, le-leb, ltb-true, ltb-false, leb-false}
@@ -66,7 +66,7 @@ apart_from : (pieces : List Piece) (piece : Piece) → IsFree pieces piece.first
 apart_from [] piece free = refl
 apart_from (first ∷ pieces) piece free =
     ap (λ test. test && list_all (λ other. is_apart other piece) pieces) (apart_of first piece (head_free first pieces piece.first.0 piece.count free))
-        ∙ apart_from pieces piece (tail_free first pieces piece.first.0 piece.count free)
+    ∙ apart_from pieces piece (tail_free first pieces piece.first.0 piece.count free)
 
 both_true : (a b : Bool) → (a && b) ≡ true → (a ≡ true) × (b ≡ true)
 both_true true b h = (refl, h)

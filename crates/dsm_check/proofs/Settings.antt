@@ -1,16 +1,12 @@
 -- The pieces of an accepted program.
-use Rattle.std.proofs.Common.{◌≡◌, ℕ, zero, suc, ◌+◌, ◌*◌, ◌≤◌, ◌<◌, Bool, true, false, ◌||◌, ◌&&◌, ltb, leb, eqb, not, List, [], ◌∷◌, ◌++◌, Option, Some, None, IfSome, is_some, Ok, Err, refl, sym, ap, subst, ◌∙◌, append_assoc, true≢false, cond, if◌then◌else◌, arith}
+use Rattle.std.proofs.Common.{◌≡◌, ℕ, ◌+◌, ◌*◌, ◌≤◌, ◌<◌, true, ◌&&◌, ltb, leb, eqb, not, List, [], ◌∷◌, ◌++◌, Option, Some, None, IfSome, Ok, Err, refl, subst, if◌then◌else◌, arith}
 use Rattle.std.specs.Prelude.{IsTrue}
 use Rattle.std.specs.List.{list_all}
-use Rattle.std.proofs.lemmas.List.{append-nil}
-use Rattle.std.proofs.lemmas.Bool.{ltb-true, ltb-false, leb-true}
+use Rattle.std.proofs.lemmas.Bool.{ltb-true, leb-true}
 use Rattle.std.proofs.lemmas.Bool.Decides.{nat_tests}
-use Rattle.std.proofs.Math.Nat.{suc-mul}
 use Rattle.std.proofs.Math.Logic.{∥∥₁_elim}
 use Rattle.std.proofs.Props.{props}
 use Rattle.dsm_base.specs.declared.setup.Piece.{Piece}
-use Rattle.dsm_base.specs.Access.{has_cell, piece_of}
-use Rattle.dsm_syntax.specs.declared.errors.ProgErr.{ProgErr}
 use Rattle.dsm_syntax.specs.declared.errors.ProgErr.TheVariants as err
 use Rattle.dsm_syntax.specs.declared.tree.Name.{Name}
 use Rattle.dsm_syntax.specs.declared.tree.Sharing.{Sharing}
@@ -23,7 +19,7 @@ use Rattle.dsm_check.specs.declared.resolved.Array.{Array}
 use Rattle.dsm_check.specs.Environments.{Entry, meaning, extent, total, cells_in, locks_in, barriers_in}
 use Rattle.dsm_check.specs.Numbers.{is_numbered, IsThere}
 use Rattle.dsm_check.specs.Bindings.{first_bound, bound, lock_piece, lock_pieces, barrier_piece, is_range, is_rhythm, as_locks, as_size, as_index, as_shared, as_barrier, locks_of, barrier_of, shared_of, with_bind, with_bind_each, with_bind_barrier, with_binding, pieces_of}
-use Rattle.dsm_check.specs.Checks.{Check, ◌>>=◌, each, used, natural}
+use Rattle.dsm_check.specs.Checks.{Check, used, natural}
 use Rattle.dsm_base.specs.Setups.{is_proc_count, are_counts, is_piece, are_apart, is_setup}
 use Rattle.dsm_check.specs.FileNames.{file_names, main_of, main_name}
 use Rattle.dsm_check.specs.Bodies.{functions_of}
@@ -238,8 +234,8 @@ set_up items program procs numbered fits h =
     whole procs names fits all_numbered pieces are =
         let most = limits names all_numbered in
         both (are_counts procs (total locks_in names) (total barriers_in names) (total (cells_in Sharing.Shared) names)) _
-            (counts procs (total locks_in names) (total barriers_in names) (total (cells_in Sharing.Shared) names) fits most.locks most.barriers most.shared)
-            (both (list_all (is_piece (total locks_in names) (total barriers_in names) (total (cells_in Sharing.Shared) names)) pieces) (are_apart pieces) are.each are.apart)
+        (counts procs (total locks_in names) (total barriers_in names) (total (cells_in Sharing.Shared) names) fits most.locks most.barriers most.shared)
+        (both (list_all (is_piece (total locks_in names) (total barriers_in names) (total (cells_in Sharing.Shared) names)) pieces) (are_apart pieces) are.each are.apart)
 
 pub setting : (program : Program) (procs : ℕ) → IsTrue (is_numbered program.names) → IsTrue (is_proc_count procs)
     → ∥ IsAccepted program ∥₁ → IsTrue (is_setup procs program.locks program.barriers program.shared_cells program.pieces)
