@@ -5,7 +5,7 @@ use Rattle.std.proofs.lemmas.List.{reverse-append, map_push}
 use Rattle.std.specs.Cmp.Lexicographic.{bytes_decides}
 use Rattle.dsm_check.specs.declared.names.Named.{Named}
 use Rattle.dsm_check.specs.Environments.{Entry, known, meaning}
-use Rattle.dsm_check.specs.Scopes.{shown, IsFound}
+use Rattle.dsm_check.specs.Tables.{shown, IsFound}
 
 -- a table without the name, and one entry more
 lookup-push : {K : Type 0} (test : K → Bool) (entries : List (K × Named)) (key : K) (named : Named)

@@ -4,7 +4,7 @@ use Rattle.dsm_syntax.specs.declared.tree.Sharing.{Sharing}
 use Rattle.dsm_check.specs.declared.items.Declared.{Declared}
 use Rattle.dsm_check.specs.declared.names.Names.{Names}
 use Rattle.dsm_check.specs.Environments.{Entry, total, cells_in, locks_in, barriers_in, functions_in}
-use Rattle.dsm_check.specs.Scopes.{shown}
+use Rattle.dsm_check.specs.Tables.{shown}
 
 -- its names, the newest first
 abbrev pub names_of : Names → List Entry

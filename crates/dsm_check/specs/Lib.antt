@@ -10,7 +10,7 @@ pub mod Setups
 pub mod Answers
 pub mod Accepted
 pub mod CheckedViews
-pub mod Scopes
+pub mod Tables
 pub mod Numbers
 pub mod Overlaps
 pub mod FileTables

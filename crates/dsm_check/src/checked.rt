@@ -86,7 +86,7 @@ impl Checked {
         self.functions.as_slice()
     }
 
-    /// How the program is set up for 2 to 16 processors.
+    /// How the program is set up for 2 to 16 processors. `MemFault` comes for want of memory.
     pub fn setup(&self, alloc: Global, procs: u8) -> Result<Setup, MemFault>
         requires { IsTrue (is_proc_count procs) }
         ensures { IfOk result (IsSetupOf (program_of self.now) procs) }

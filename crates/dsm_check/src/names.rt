@@ -2,7 +2,7 @@
 
 ghost use Rattle.std.specs.Prelude.{◌≡◌, List, [], ◌∷◌, None, IsTrue, IfSome, OnOk};
 ghost use Rattle.dsm_check.specs.Environments.{known, meaning};
-ghost use Rattle.dsm_check.specs.Scopes.{IsFound, shown};
+ghost use Rattle.dsm_check.specs.Tables.{IsFound, shown};
 ghost use Rattle.dsm_check.specs.Numbers.{is_next, is_numbered, IsThere};
 
 use dsm_base::MemFault;

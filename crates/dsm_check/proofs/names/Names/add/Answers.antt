@@ -3,7 +3,7 @@ use Rattle.std.specs.Prelude.{bytes_eq, IsTrue}
 use Rattle.indexmap.proofs.CallerLemmas.{insert_entry-new}
 use Rattle.dsm_check.specs.declared.names.Named.{Named}
 use Rattle.dsm_check.specs.Environments.{Entry, known, meaning}
-use Rattle.dsm_check.specs.Scopes.{IsFound, shown}
+use Rattle.dsm_check.specs.Tables.{IsFound, shown}
 use Rattle.dsm_check.specs.Numbers.{is_numbered}
 use Rattle.dsm_check.proofs.Tables.{shown-push, found-push}
 use Rattle.dsm_check.proofs.names.Names.add.Goals as goal
