@@ -21,6 +21,3 @@ pub use resolved::{
     Array, Expression, ForStart, Function, Location, LockPlace, Part, Statement, Variable,
 };
 pub use rules::{check, fit};
-
-#[cfg(test)]
-mod tests;

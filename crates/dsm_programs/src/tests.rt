@@ -1,7 +1,7 @@
 //! What the clauses mean, by examples.
 
-use crate::{Checked, Named, check, fit};
 use dsm_base::Text;
+use dsm_check::{Checked, Named, check, fit};
 use dsm_parse::parse;
 use dsm_syntax::{ProgErr, lex};
 use std::alloc::{AllocError, Global};
