@@ -5,3 +5,4 @@ pub mod SemanticsSteps
 pub mod SemanticsItems
 pub mod SemanticsWeights
 pub mod Semantics
+pub mod SemanticsWithin

@@ -1,0 +1,366 @@
+-- A thread of a program that names only cells, locks and barriers that there are wants no others.
+use Rattle.std.proofs.Common.{◌≡◌, ℕ, zero, suc, ◌+◌, ◌<◌, nat_lt, ℤ, pos, negsuc, Bool, true, false, cond, List, [], ◌∷◌, Option, Some, None, Ok, Err, length, refl, subst, arith}
+use Rattle.std.specs.Prelude.{slice_get}
+use borrow.Author.Tests.{ltb-true}
+use Rattle.dsm_base.specs.declared.names.Lock.{Lock}
+use Rattle.dsm_base.specs.declared.names.Fault.{Fault}
+use Rattle.dsm_base.specs.declared.label.Want.{Want}
+use Rattle.dsm_base.specs.declared.label.Label.{Label}
+use Rattle.dsm_base.specs.declared.setup.Setup.{Setup}
+use Rattle.dsm_base.specs.Threads.{Names, StaysWithin, state_after}
+use Rattle.dsm_syntax.specs.declared.tree.BinaryOp.{BinaryOp}
+use Rattle.dsm_syntax.specs.declared.tree.Sharing.{Sharing}
+use Rattle.dsm_check.specs.declared.resolved.Array.{Array}
+use Rattle.dsm_check.specs.Resolved as r
+use Rattle.dsm_check.specs.SemanticsValues.{Outcome, holds, unary_value, step_value, binary_value, operator_of}
+use Rattle.dsm_check.specs.SemanticsSteps.{Move, goes, asks, want_of, next_of}
+use Rattle.dsm_check.specs.SemanticsItems.{Place, slot, cell, member, LockPlace, one_lock, lock_member, Use, Loop, Item, evaluate, evaluate_all, test_index, load, store, unary, step_by, binary, and_then, or_else, to_truth, choose, enter, discard, execute, run, declare, branch, round, decide, third_part, jump_back, leave, ask, take_lock, give, cross, gather, print, Frame, Life, going, ended, stopped, State, top, below}
+use Rattle.dsm_check.specs.SemanticsWithin.{Extent, extent_of, IsArrayBelow, IsCellWithin, IsArrayWithin, IsLocationWithin, IsWithin, AreWithin, IsOptionWithin, AreVariablesWithin, ArePartsWithin, IsStartWithin, IsLockWithin, IsStatementWithin, AreStatementsWithin, AreFunctionsWithin}
+use Rattle.dsm_check.specs.Semantics.{numbered, entered, faults, at_member, reaching, place_of, loads, load_at, stores, store_at, comes_to, second, assigning, entering, returns, declaration, declaring, branching, starting, testing, stepping, after_loop, after_body, reaching_lock, lock_place_of, at_lock, gathering, evaluation, evaluation_of_all, execution, execution_of_all, act, act_first, step_in, step, ready, completed, program_semantics, first_state}
+use Rattle.dsm_check.proofs.StepsSettle.{settled_keeps}
+use Rattle.dsm_check.proofs.SemanticsFalls.{weight_at, step_falls}
+
+-- What remains to be done names only what there is.
+
+abbrev pub IsPlaceWithin : Extent → Place → Type 0
+IsPlaceWithin extent (slot number) = Unit {0}
+IsPlaceWithin extent (cell sharing number line) = IsCellWithin extent sharing number
+IsPlaceWithin extent (member sharing array line) = IsArrayWithin extent sharing array
+
+abbrev pub IsLockPlaceWithin : Extent → LockPlace → Type 0
+IsLockPlaceWithin extent (one_lock lock line) = lock.0 < extent.locks
+IsLockPlaceWithin extent (lock_member array line) = IsArrayBelow extent.locks array
+
+abbrev pub IsOtherWithin : Extent → Option r.Statement → Type 0
+IsOtherWithin extent None = Unit {0}
+IsOtherWithin extent (Some other) = IsStatementWithin extent other
+
+abbrev pub IsLoopWithin : Extent → Loop → Type 0
+IsLoopWithin extent loop = IsOptionWithin extent loop.test × IsOptionWithin extent loop.step × IsStatementWithin extent loop.body
+
+abbrev pub IsItemWithin : Extent → Item → Type 0
+IsItemWithin extent (evaluate e) = IsWithin extent e
+IsItemWithin extent (evaluate_all arguments) = AreWithin extent arguments
+IsItemWithin extent (load place way) = IsPlaceWithin extent place
+IsItemWithin extent (store place) = IsPlaceWithin extent place
+IsItemWithin extent (and_then e) = IsWithin extent e
+IsItemWithin extent (or_else e) = IsWithin extent e
+IsItemWithin extent (choose a b) = IsWithin extent a × IsWithin extent b
+IsItemWithin extent (execute statement) = IsStatementWithin extent statement
+IsItemWithin extent (run statements) = AreStatementsWithin extent statements
+IsItemWithin extent (declare variables) = AreVariablesWithin extent variables
+IsItemWithin extent (branch body other) = IsStatementWithin extent body × IsOtherWithin extent other
+IsItemWithin extent (round loop) = IsLoopWithin extent loop
+IsItemWithin extent (decide loop) = IsLoopWithin extent loop
+IsItemWithin extent (third_part loop) = IsLoopWithin extent loop
+IsItemWithin extent (jump_back loop) = IsLoopWithin extent loop
+IsItemWithin extent (ask lock mode) = IsLockPlaceWithin extent lock
+IsItemWithin extent (take_lock lock mode) = IsLockPlaceWithin extent lock
+IsItemWithin extent (give lock) = IsLockPlaceWithin extent lock
+IsItemWithin extent (cross bar) = bar.0 < extent.bars
+IsItemWithin extent (gather parts) = ArePartsWithin extent parts
+IsItemWithin extent _ = Unit {0}
+
+abbrev pub AreItemsWithin : Extent → List Item → Type 0
+AreItemsWithin extent [] = Unit {0}
+AreItemsWithin extent (item ∷ k) = IsItemWithin extent item × AreItemsWithin extent k
+
+abbrev pub AreFramesWithin : Extent → List Frame → Type 0
+AreFramesWithin extent [] = Unit {0}
+AreFramesWithin extent (frame ∷ outer) = AreItemsWithin extent frame.todo × AreFramesWithin extent outer
+
+abbrev pub IsStateWithin : Extent → State → Type 0
+IsStateWithin extent s = AreItemsWithin extent s.todo × AreFramesWithin extent s.outer
+
+member_below : (bound : ℕ) (array : Array) (i : ℕ) → IsArrayBelow bound array → nat_lt i array.size ≡ true → array.first + i < bound
+member_below bound array i within test = omega (arith, ltb-true i array.size test)
+
+body_within : (extent : Extent) (functions : List r.Function) (number : ℕ) → AreFunctionsWithin extent functions
+    → AreStatementsWithin extent (numbered (slice_get functions number)).body
+body_within extent [] number within = tt
+body_within extent (function ∷ rest) zero within = within.0
+body_within extent (function ∷ rest) (suc number) within = body_within extent rest number within.1
+
+module _ (setup : Setup) (functions : List r.Function) (all : AreFunctionsWithin (extent_of setup) functions) where
+  abbrev extent : Extent
+  extent = extent_of setup
+
+  -- what a step wants, and what it leaves
+  abbrev pub KeepsWithin : Move State → Type 0
+  KeepsWithin (goes t) = IsStateWithin extent t
+  KeepsWithin (asks want after) = Names setup want × ((answer : ℤ) → IsStateWithin extent (after answer))
+
+  within_if : (test : Bool) (a b : Move State) → (test ≡ true → KeepsWithin a) → KeepsWithin b → KeepsWithin (cond test a b)
+  within_if true a b p q = p refl
+  within_if false a b p q = q
+
+  within_fault : (s : State) (fault : Fault) (line : ℕ) → IsStateWithin extent s → KeepsWithin (faults s fault line)
+  within_fault s fault line p = (tt, λ answer. p)
+
+  within_member : (s : State) (array : Array) (line : ℕ) (index : ℤ) (go : ℕ → Move State) → IsStateWithin extent s
+      → ((i : ℕ) → nat_lt i array.size ≡ true → KeepsWithin (go (array.first + i))) → KeepsWithin (at_member s array line index go)
+  within_member s array line (pos i) go p h = within_if (nat_lt i array.size) _ _ (λ test. h i test) (within_fault s Fault.Index line p)
+  within_member s array line (negsuc i) go p h = within_fault s Fault.Index line p
+
+  within_loads : (s : State) (sharing : Sharing) (number line : ℕ) (after : ℤ → State) → IsCellWithin extent sharing number
+      → ((v : ℤ) → IsStateWithin extent (after v)) → KeepsWithin (loads s sharing number line after)
+  within_loads s Sharing.Shared number line after c h = (c, h)
+  within_loads s Sharing.Private number line after c h = h _
+
+  within_stores : (sharing : Sharing) (number line : ℕ) (value : ℤ) (after : State) → IsCellWithin extent sharing number
+      → IsStateWithin extent after → KeepsWithin (stores sharing number line value after)
+  within_stores Sharing.Shared number line value after c h = (c, λ answer. h)
+  within_stores Sharing.Private number line value after c h = h
+
+  cell_of_array : (sharing : Sharing) (array : Array) (i : ℕ) → IsArrayWithin extent sharing array → nat_lt i array.size ≡ true
+      → IsCellWithin extent sharing (array.first + i)
+  cell_of_array Sharing.Shared array i within test = member_below setup.cells array i within test
+  cell_of_array Sharing.Private array i within test = tt
+
+  within_outcome : (s : State) (k : List Item) (rest : List ℤ) (line : ℕ) (outcome : Outcome) → IsStateWithin extent s → AreItemsWithin extent k
+      → KeepsWithin (comes_to s k rest line outcome)
+  within_outcome s k rest line (Ok value) p h = (h, p.1)
+  within_outcome s k rest line (Err fault) p h = within_fault s fault line p
+
+  place_within : (location : r.Location) → IsLocationWithin extent location → IsPlaceWithin extent (place_of location)
+  place_within (r.variable number) w = tt
+  place_within (r.cell sharing number line) w = w
+  place_within (r.element sharing array index line) w = w.0
+
+  within_reaching : (location : r.Location) (k : List Item) → IsLocationWithin extent location → AreItemsWithin extent k → AreItemsWithin extent (reaching location k)
+  within_reaching (r.variable number) k w h = h
+  within_reaching (r.cell sharing number line) k w h = h
+  within_reaching (r.element sharing array index line) k w h = (w.1, (tt, h))
+
+  lock_place_within : (lock : r.LockPlace) → IsLockWithin extent lock → IsLockPlaceWithin extent (lock_place_of lock)
+  lock_place_within (r.one_lock lock line) w = w
+  lock_place_within (r.lock_element array index line) w = w.0
+
+  within_reaching_lock : (lock : r.LockPlace) (k : List Item) → IsLockWithin extent lock → AreItemsWithin extent k → AreItemsWithin extent (reaching_lock lock k)
+  within_reaching_lock (r.one_lock lock line) k w h = h
+  within_reaching_lock (r.lock_element array index line) k w h = (w.1, (tt, h))
+
+  within_second : (op : BinaryOp) (line : ℕ) (e : r.Expression) (k : List Item) → IsWithin extent e → AreItemsWithin extent k → AreItemsWithin extent (second op line e k)
+  within_second BinaryOp.And line e k w h = (w, h)
+  within_second BinaryOp.Or line e k w h = (w, h)
+  within_second op line e k w h = (w, (tt, h))
+
+  within_assigning : (op : Option BinaryOp) (line : ℕ) (place : Place) (e : r.Expression) (k : List Item) → IsPlaceWithin extent place → IsWithin extent e
+      → AreItemsWithin extent k → AreItemsWithin extent (assigning op line place e k)
+  within_assigning None line place e k c w h = (w, (c, h))
+  within_assigning (Some op) line place e k c w h = (c, (w, (tt, (c, h))))
+
+  within_starting : (start : r.ForStart) (k : List Item) → IsStartWithin extent start → AreItemsWithin extent k → AreItemsWithin extent (starting start k)
+  within_starting r.start_nothing k w h = h
+  within_starting (r.start_variables variables) k w h = (w, h)
+  within_starting (r.start_expression e) k w h = (w, (tt, h))
+
+  within_testing : (k : List Item) (loop : Loop) (test : Option r.Expression) → IsOptionWithin extent test → IsLoopWithin extent loop → AreItemsWithin extent k
+      → AreItemsWithin extent (testing k loop test)
+  within_testing k loop None w l h = (l.2, (l, h))
+  within_testing k loop (Some e) w l h = (w, (l, h))
+
+  within_stepping : (k : List Item) (step : Option r.Expression) → IsOptionWithin extent step → AreItemsWithin extent k → AreItemsWithin extent (stepping k step)
+  within_stepping k None w h = h
+  within_stepping k (Some e) w h = (w, (tt, h))
+
+  within_branching : (test : Bool) (k : List Item) (body : r.Statement) (other : Option r.Statement) → IsStatementWithin extent body → IsOtherWithin extent other
+      → AreItemsWithin extent k → AreItemsWithin extent (branching k (cond test (Some body) other))
+  within_branching true k body other w o h = (w, h)
+  within_branching false k body None w o h = h
+  within_branching false k body (Some other) w o h = (o, h)
+
+  within_choice : (test : Bool) (a b : r.Expression) → IsWithin extent a → IsWithin extent b → IsWithin extent (cond test a b)
+  within_choice true a b p q = p
+  within_choice false a b p q = q
+
+  items_if : (test : Bool) (k l : List Item) → AreItemsWithin extent k → AreItemsWithin extent l → AreItemsWithin extent (cond test k l)
+  items_if true k l p q = p
+  items_if false k l p q = q
+
+  within_after_loop : (k : List Item) → AreItemsWithin extent k → AreItemsWithin extent (after_loop k)
+  within_after_loop [] h = h
+  within_after_loop (third_part loop ∷ k) h = h.1
+  within_after_loop (item ∷ k) h = within_after_loop k h.1
+
+  within_after_body : (k : List Item) → AreItemsWithin extent k → AreItemsWithin extent (after_body k)
+  within_after_body [] h = h
+  within_after_body (third_part loop ∷ k) h = h
+  within_after_body (item ∷ k) h = within_after_body k h.1
+
+  within_load : (s : State) (k : List Item) (way : Use) (place : Place) → IsStateWithin extent s → IsPlaceWithin extent place → AreItemsWithin extent k
+      → KeepsWithin (load_at s k way place)
+  within_load s k way (slot number) p c h = (h, p.1)
+  within_load s k way (cell sharing number line) p c h = within_loads s sharing number line _ c (λ v. (h, p.1))
+  within_load s k way (member sharing array line) p c h =
+      within_member s array line (top s.operands) _ p (λ i test. within_loads s sharing _ line _ (cell_of_array sharing array i c test) (λ v. (h, p.1)))
+
+  within_store : (s : State) (k : List Item) (place : Place) → IsStateWithin extent s → IsPlaceWithin extent place → AreItemsWithin extent k
+      → KeepsWithin (store_at s k place)
+  within_store s k (slot number) p c h = (h, p.1)
+  within_store s k (cell sharing number line) p c h = within_stores sharing number line _ _ c (h, p.1)
+  within_store s k (member sharing array line) p c h =
+      within_member s array line (top (below s.operands)) _ p (λ i test. within_stores sharing _ line _ _ (cell_of_array sharing array i c test) (h, p.1))
+
+  within_lock : (s : State) (lock : LockPlace) (go : Lock → ℕ → List ℤ → Move State) → IsStateWithin extent s → IsLockPlaceWithin extent lock
+      → ((l : Lock) (line : ℕ) (rest : List ℤ) → l.0 < setup.locks → KeepsWithin (go l line rest)) → KeepsWithin (at_lock s lock go)
+  within_lock s (one_lock lock line) go p c h = h lock line s.operands c
+  within_lock s (lock_member array line) go p c h =
+      within_member s array line (top s.operands) _ p (λ i test. h _ line (below s.operands) (member_below setup.locks array i c test))
+
+  within_evaluation : (s : State) (k : List Item) (e : r.Expression) → IsStateWithin extent s → IsWithin extent e → AreItemsWithin extent k → KeepsWithin (evaluation s k e)
+  within_evaluation s k (r.number n) p w h = (h, p.1)
+  within_evaluation s k (r.load location) p w h = (within_reaching location _ w (place_within location w, h), p.1)
+  within_evaluation s k (r.call function arguments line) p w h = ((w, (tt, h)), p.1)
+  within_evaluation s k (r.unary op line e) p w h = ((w, (tt, h)), p.1)
+  within_evaluation s k (r.prefix op line location) p w h =
+      (within_reaching location _ w (place_within location w, (tt, (place_within location w, h))), p.1)
+  within_evaluation s k (r.postfix location op line) p w h =
+      (within_reaching location _ w (place_within location w, (tt, (place_within location w, (tt, h)))), p.1)
+  within_evaluation s k (r.binary a op line b) p w h = ((w.0, within_second op line b k w.1 h), p.1)
+  within_evaluation s k (r.choice test a b) p w h = ((w.0, ((w.1, w.2), h)), p.1)
+  within_evaluation s k (r.assign location op line e) p w h =
+      (within_reaching location _ w.0 (within_assigning (operator_of op) line (place_of location) e k (place_within location w.0) w.1 h), p.1)
+
+  within_all : (s : State) (k : List Item) (arguments : r.Expressions) → IsStateWithin extent s → AreWithin extent arguments → AreItemsWithin extent k
+      → KeepsWithin (evaluation_of_all s k arguments)
+  within_all s k r.nil p w h = (h, p.1)
+  within_all s k (r.cons e rest) p w h = ((w.0, (w.1, h)), p.1)
+
+  within_declaring : (s : State) (k : List Item) (number : ℕ) (initial : Option r.Expression) → IsStateWithin extent s → IsOptionWithin extent initial
+      → AreItemsWithin extent k → KeepsWithin (declaring s k number initial)
+  within_declaring s k number None p w h = (h, p.1)
+  within_declaring s k number (Some e) p w h = ((w, (tt, (tt, h))), p.1)
+
+  within_declaration : (s : State) (k : List Item) (variables : List r.Variable) → IsStateWithin extent s → AreVariablesWithin extent variables
+      → AreItemsWithin extent k → KeepsWithin (declaration s k variables)
+  within_declaration s k [] p w h = (h, p.1)
+  within_declaration s k (variable ∷ rest) p w h = within_declaring s (declare rest ∷ k) variable.slot variable.initial p w.0 (w.1, h)
+
+  within_execution : (s : State) (k : List Item) (statement : r.Statement) → IsStateWithin extent s → IsStatementWithin extent statement → AreItemsWithin extent k
+      → KeepsWithin (execution s k statement)
+  within_execution s k (r.block body) p w h = ((w, h), p.1)
+  within_execution s k r.empty p w h = (h, p.1)
+  within_execution s k (r.variables variables) p w h = ((w, h), p.1)
+  within_execution s k (r.expression e) p w h = ((w, (tt, h)), p.1)
+  within_execution s k (r.when test body) p w h = ((w.0, ((w.1, tt), h)), p.1)
+  within_execution s k (r.either test body other) p w h = ((w.0, ((w.1, w.2), h)), p.1)
+  within_execution s k (r.while test body) p w h = (((w.0, tt, w.1), h), p.1)
+  within_execution s k (r.for start test step body) p w h = (within_starting start _ w.0 ((w.1, w.2, w.3), h), p.1)
+  within_execution s k r.break p w h = (within_after_loop k h, p.1)
+  within_execution s k r.continue p w h = (within_after_body k h, p.1)
+  within_execution s k (r.return None) p w h = ((tt, h), p.1)
+  within_execution s k (r.return (Some e)) p w h = ((w, (tt, h)), p.1)
+  within_execution s k (r.acquire lock mode) p w h = (within_reaching_lock lock _ w (lock_place_within lock w, h), p.1)
+  within_execution s k (r.release lock) p w h = (within_reaching_lock lock _ w (lock_place_within lock w, h), p.1)
+  within_execution s k (r.barrier bar) p w h = (w, λ answer. ((w, h), p.1))
+  within_execution s k (r.print parts) p w h = ((w, (tt, h)), p.1)
+
+  within_statements : (s : State) (k : List Item) (statements : r.Statements) → IsStateWithin extent s → AreStatementsWithin extent statements
+      → AreItemsWithin extent k → KeepsWithin (execution_of_all s k statements)
+  within_statements s k r.none p w h = (h, p.1)
+  within_statements s k (r.then statement rest) p w h = ((w.0, (w.1, h)), p.1)
+
+  within_gathering : (s : State) (k : List Item) (parts : List r.Part) → IsStateWithin extent s → ArePartsWithin extent parts → AreItemsWithin extent k
+      → KeepsWithin (gathering s k parts)
+  within_gathering s k [] p w h = (h, p.1)
+  within_gathering s k (r.part_text text ∷ rest) p w h = ((w.1, h), p.1)
+  within_gathering s k (r.part_value e ∷ rest) p w h = ((w.0, (w.1, h)), p.1)
+
+  within_returns : (s : State) (value : ℤ) (outer : List Frame) → IsStateWithin extent s → AreFramesWithin extent outer → KeepsWithin (returns s value outer)
+  within_returns s value [] p h = (tt, λ answer. p)
+  within_returns s value (caller ∷ outer) p h = (tt, λ answer. h)
+
+  within_entering : (s : State) (k : List Item) (line : ℕ) (function : r.Function) → IsStateWithin extent s → AreItemsWithin extent k
+      → AreStatementsWithin extent function.body → KeepsWithin (entering s k line function)
+  within_entering s k line function p h w =
+      within_if (nat_lt (length s.outer + 1) 256) (asks Want.Quiet (λ answer. entered s k function)) (faults s Fault.Depth line)
+      (λ test. (tt, λ answer. ((w, tt), (h, p.1)))) (within_fault s Fault.Depth line p)
+
+  within_act : (s : State) (k : List Item) (item : Item) → IsStateWithin extent s → IsItemWithin extent item → AreItemsWithin extent k
+      → KeepsWithin (act functions s k item)
+  within_act s k (evaluate e) p w h = within_evaluation s k e p w h
+  within_act s k (evaluate_all arguments) p w h = within_all s k arguments p w h
+  within_act s k (test_index array line) p w h = within_member s array line (top s.operands) _ p (λ i test. (h, p.1))
+  within_act s k (load place way) p w h = within_load s k way place p w h
+  within_act s k (store place) p w h = within_store s k place p w h
+  within_act s k (unary op line) p w h = within_outcome s k _ line (unary_value op (top s.operands)) p h
+  within_act s k (step_by op line) p w h = within_outcome s k _ line (step_value op (top s.operands)) p h
+  within_act s k (binary op line) p w h = within_outcome s k _ line (binary_value op (top (below s.operands)) (top s.operands)) p h
+  within_act s k (and_then e) p w h = within_if (holds (top s.operands)) _ _ (λ test. ((w, (tt, h)), p.1)) (h, p.1)
+  within_act s k (or_else e) p w h = within_if (holds (top s.operands)) _ _ (λ test. (h, p.1)) ((w, (tt, h)), p.1)
+  within_act s k to_truth p w h = (h, p.1)
+  within_act s k (choose a b) p w h = ((within_choice (holds (top s.operands)) a b w.0 w.1, h), p.1)
+  within_act s k (enter number line) p w h = within_entering s k line (numbered (slice_get functions number)) p h (body_within extent functions number all)
+  within_act s k discard p w h = (h, p.1)
+  within_act s k (execute statement) p w h = within_execution s k statement p w h
+  within_act s k (run statements) p w h = within_statements s k statements p w h
+  within_act s k (declare variables) p w h = within_declaration s k variables p w h
+  within_act s k (branch body other) p w h = (within_branching (holds (top s.operands)) k body other w.0 w.1 h, p.1)
+  within_act s k (round loop) p w h = (within_testing k loop loop.test w.0 w h, p.1)
+  within_act s k (decide loop) p w h = (items_if (holds (top s.operands)) _ k (w.2, (w, h)) h, p.1)
+  within_act s k (third_part loop) p w h = (within_stepping (jump_back loop ∷ k) loop.step w.1 (w, h), p.1)
+  within_act s k (jump_back loop) p w h = (tt, λ answer. ((w, h), p.1))
+  within_act s k leave p w h = within_returns s (top s.operands) s.outer p p.1
+  within_act s k (ask lock mode) p w h = within_lock s lock _ p w (λ l line rest c. (c, λ answer. ((w, h), p.1)))
+  within_act s k (take_lock lock mode) p w h = within_lock s lock _ p w (λ l line rest c. (c, λ answer. (h, p.1)))
+  within_act s k (give lock) p w h = within_lock s lock _ p w (λ l line rest c. (c, λ answer. (h, p.1)))
+  within_act s k (cross bar) p w h = (w, λ answer. (h, p.1))
+  within_act s k (gather parts) p w h = within_gathering s k parts p w h
+  within_act s k (print parts) p w h = (tt, λ answer. (h, p.1))
+
+  within_first : (s : State) (todo : List Item) → IsStateWithin extent s → AreItemsWithin extent todo → KeepsWithin (act_first functions s todo)
+  within_first s [] p h = within_returns s (pos 0) s.outer p p.1
+  within_first s (item ∷ k) p h = within_act s k item p h.0 h.1
+
+  within_in : (s : State) (life : Life) → IsStateWithin extent s → KeepsWithin (step_in functions s life)
+  within_in s going p = within_first s s.todo p p.0
+  within_in s ended p = (tt, λ answer. p)
+  within_in s (stopped fault line) p = (tt, λ answer. p)
+
+  pub step_within : (s : State) → IsStateWithin extent s → KeepsWithin (step functions s)
+  step_within s p = within_in s s.life p
+
+  pub goes_within : (s t : State) → IsStateWithin extent s → step functions s ≡ goes t → IsStateWithin extent t
+  goes_within s t p is = subst KeepsWithin is (step_within s p)
+
+  pub ready_within : (s : State) → IsStateWithin extent s → IsStateWithin extent (ready functions s)
+  ready_within s p = settled_keeps (step functions) weight_at (step_falls functions) (IsStateWithin extent) goes_within s p
+
+  next_within : (s : State) (answer : ℤ) (move : Move State) → IsStateWithin extent s → KeepsWithin move → IsStateWithin extent (next_of s answer move)
+  next_within s answer (goes t) p keeps = p
+  next_within s answer (asks want after) p keeps = keeps.1 answer
+
+  pub completed_within : (s : State) (label : Label) → IsStateWithin extent s → IsStateWithin extent (completed functions s label)
+  completed_within s (Label.Stop fault line) p = (tt, tt)
+  completed_within s Label.End p = (tt, tt)
+  completed_within s Label.Quiet p = next_within s _ _ p (step_within s p)
+  completed_within s (Label.Load number value) p = next_within s _ _ p (step_within s p)
+  completed_within s (Label.Store number value) p = next_within s _ _ p (step_within s p)
+  completed_within s (Label.Ask lock mode) p = next_within s _ _ p (step_within s p)
+  completed_within s (Label.Take lock mode version) p = next_within s _ _ p (step_within s p)
+  completed_within s (Label.Give lock) p = next_within s _ _ p (step_within s p)
+  completed_within s (Label.Arrive bar) p = next_within s _ _ p (step_within s p)
+  completed_within s (Label.Cross bar epoch) p = next_within s _ _ p (step_within s p)
+  completed_within s (Label.Line text) p = next_within s _ _ p (step_within s p)
+
+  names_of : (move : Move State) → KeepsWithin move → Names setup (want_of move)
+  names_of (goes t) keeps = tt
+  names_of (asks want after) keeps = keeps.0
+
+  pub want_within : (s : State) → IsStateWithin extent s → Names setup (want_of (step functions s))
+  want_within s p = names_of (step functions s) (step_within s p)
+
+  module _ (main private_cells procs me : ℕ) where
+    abbrev first : State
+    first = first_state functions main private_cells procs me
+
+    pub first_within : IsStateWithin extent first
+    first_within = ready_within _ ((body_within extent functions main all, tt), tt)
+
+    reached_within : (labels : List Label) → IsStateWithin extent (state_after (program_semantics functions) first labels)
+    reached_within [] = first_within
+    reached_within (label ∷ before) = ready_within _ (completed_within _ label (reached_within before))
+
+    pub program_stays_within : StaysWithin setup (program_semantics functions) first
+    program_stays_within labels = want_within _ (reached_within labels)
