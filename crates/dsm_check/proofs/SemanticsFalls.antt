@@ -6,9 +6,9 @@ use Rattle.dsm_syntax.specs.declared.tree.Sharing.{Sharing}
 use Rattle.dsm_check.specs.declared.resolved.Array.{Array}
 use Rattle.dsm_check.specs.Resolved as r
 use Rattle.dsm_check.specs.SemanticsValues.{Outcome, holds, unary_value, step_value, binary_value, operator_of}
-use Rattle.dsm_check.specs.SemanticsSteps.{Move}
+use Rattle.dsm_check.specs.SemanticsSteps.{Move, goes, asks}
 use Rattle.dsm_check.specs.SemanticsItems.{Place, slot, cell, member, LockPlace, one_lock, lock_member, Use, Loop, Item, evaluate, evaluate_all, test_index, load, store, unary, step_by, binary, and_then, or_else, to_truth, choose, enter, discard, execute, run, declare, branch, round, decide, third_part, jump_back, leave, ask, take_lock, give, cross, gather, print, Frame, Life, going, ended, stopped, State, top, below}
-use Rattle.dsm_check.specs.SemanticsWeights.{location_weight, expression_weight, option_weight, variables_weight, start_weight, lock_weight, statement_weight, weight}
+use Rattle.dsm_check.specs.SemanticsWeights.{location_weight, expression_weight, option_weight, start_weight, lock_weight, statement_weight, weight}
 use Rattle.dsm_check.specs.Semantics.{at_member, reaching, place_of, loads, load_at, stores, store_at, comes_to, second, assigning, returns, declaration, declaring, branching, starting, testing, stepping, after_loop, after_body, reaching_lock, lock_place_of, at_lock, gathering, evaluation, evaluation_of_all, execution, execution_of_all, act, act_first, step_in, step}
 use Rattle.dsm_check.proofs.StepsSettle.{Falls}
 
@@ -36,9 +36,9 @@ less_stores : (n : ℕ) (sharing : Sharing) (number line : ℕ) (value : ℤ) (a
 less_stores n Sharing.Shared number line value after h = tt
 less_stores n Sharing.Private number line value after h = h
 
-less_outcome : (n : ℕ) (s : State) (k : List Item) (rest : List ℤ) (line : ℕ) (outcome : Outcome) → weight k < n → Less n (comes_to s k rest line outcome)
-less_outcome n s k rest line (Ok value) h = h
-less_outcome n s k rest line (Err fault) h = tt
+less_outcome : (n : ℕ) (s : State) (rest : List ℤ) (line : ℕ) (outcome : Outcome) → weight s.todo < n → Less n (comes_to s rest line outcome)
+less_outcome n s rest line (Ok value) h = h
+less_outcome n s rest line (Err fault) h = tt
 
 reaching_weight : (location : r.Location) (k : List Item) → weight (reaching location k) ≡ location_weight location + weight k
 reaching_weight (r.variable number) k = omega arith
@@ -83,15 +83,15 @@ after_body_weight [] = omega arith
 after_body_weight (third_part loop ∷ k) = omega arith
 after_body_weight (item ∷ k) = omega (arith, after_body_weight k)
 
-less_load : (n : ℕ) (s : State) (k : List Item) (way : Use) (place : Place) → weight k < n → Less n (load_at s k way place)
-less_load n s k way (slot number) h = h
-less_load n s k way (cell sharing number line) h = less_loads n s sharing number line _ (λ v. h)
-less_load n s k way (member sharing array line) h = less_member n s array line (top s.operands) _ (λ number. less_loads n s sharing number line _ (λ v. h))
+less_load : (n : ℕ) (s : State) (way : Use) (place : Place) → weight s.todo < n → Less n (load_at s way place)
+less_load n s way (slot number) h = h
+less_load n s way (cell sharing number line) h = less_loads n s sharing number line _ (λ v. h)
+less_load n s way (member sharing array line) h = less_member n s array line (top s.operands) _ (λ number. less_loads n s sharing number line _ (λ v. h))
 
-less_store : (n : ℕ) (s : State) (k : List Item) (place : Place) → weight k < n → Less n (store_at s k place)
-less_store n s k (slot number) h = h
-less_store n s k (cell sharing number line) h = less_stores n sharing number line _ _ h
-less_store n s k (member sharing array line) h =
+less_store : (n : ℕ) (s : State) (place : Place) → weight s.todo < n → Less n (store_at s place)
+less_store n s (slot number) h = h
+less_store n s (cell sharing number line) h = less_stores n sharing number line _ _ h
+less_store n s (member sharing array line) h =
     less_member n s array line (top (below s.operands)) _ (λ number. less_stores n sharing number line _ _ h)
 
 less_lock : (n : ℕ) (s : State) (lock : LockPlace) (go : Lock → ℕ → List ℤ → Move State) → ((l : Lock) (line : ℕ) (rest : List ℤ) → Less n (go l line rest))
@@ -99,62 +99,63 @@ less_lock : (n : ℕ) (s : State) (lock : LockPlace) (go : Lock → ℕ → List
 less_lock n s (one_lock lock line) go h = h _ _ _
 less_lock n s (lock_member array line) go h = less_member n s array line (top s.operands) _ (λ number. h _ _ _)
 
-evaluation_falls : (s : State) (k : List Item) (e : r.Expression) → Less (weight (evaluate e ∷ k)) (evaluation s k e)
-evaluation_falls s k (r.number n) = omega arith
-evaluation_falls s k (r.load location) = omega (arith, reaching_weight location (load (place_of location) Use.for_value ∷ k))
-evaluation_falls s k (r.call function arguments line) = omega arith
-evaluation_falls s k (r.unary op line e) = omega arith
-evaluation_falls s k (r.prefix op line location) =
-    omega (arith, reaching_weight location (load (place_of location) Use.for_change ∷ step_by op line ∷ store (place_of location) ∷ k))
-evaluation_falls s k (r.postfix location op line) =
-    omega (arith, reaching_weight location (load (place_of location) Use.for_step_behind ∷ step_by op line ∷ store (place_of location) ∷ discard ∷ k))
-evaluation_falls s k (r.binary a op line b) = omega (arith, second_weight op line b k)
-evaluation_falls s k (r.choice test a b) = omega arith
-evaluation_falls s k (r.assign location op line e) =
-    omega (arith, reaching_weight location (assigning (operator_of op) line (place_of location) e k), assigning_weight (operator_of op) line (place_of location) e k)
+evaluation_falls : (s : State) (e : r.Expression) → Less (weight (evaluate e ∷ s.todo)) (evaluation s e)
+evaluation_falls s (r.number n) = omega arith
+evaluation_falls s (r.load location) = omega (arith, reaching_weight location (load (place_of location) Use.for_value ∷ s.todo))
+evaluation_falls s (r.call function arguments line) = omega arith
+evaluation_falls s (r.unary op line e) = omega arith
+evaluation_falls s (r.prefix op line location) =
+    omega (arith, reaching_weight location (load (place_of location) Use.for_change ∷ step_by op line ∷ store (place_of location) ∷ s.todo))
+evaluation_falls s (r.postfix location op line) =
+    omega (arith, reaching_weight location (load (place_of location) Use.for_step_behind ∷ step_by op line ∷ store (place_of location) ∷ discard ∷ s.todo))
+evaluation_falls s (r.binary a op line b) = omega (arith, second_weight op line b s.todo)
+evaluation_falls s (r.choice test a b) = omega arith
+evaluation_falls s (r.assign location op line e) =
+    omega (arith, reaching_weight location (assigning (operator_of op) line (place_of location) e s.todo), assigning_weight (operator_of op) line (place_of location) e s.todo)
 
-all_falls : (s : State) (k : List Item) (arguments : r.Expressions) → Less (weight (evaluate_all arguments ∷ k)) (evaluation_of_all s k arguments)
-all_falls s k r.nil = omega arith
-all_falls s k (r.cons e rest) = omega arith
+all_falls : (s : State) (arguments : r.Expressions) → Less (weight (evaluate_all arguments ∷ s.todo)) (evaluation_of_all s arguments)
+all_falls s r.nil = omega arith
+all_falls s (r.cons e rest) = omega arith
 
-declaring_falls : (s : State) (k : List Item) (number : ℕ) (initial : Option r.Expression) → Less (option_weight initial + 2 + weight k) (declaring s k number initial)
-declaring_falls s k number None = omega arith
-declaring_falls s k number (Some e) = omega arith
+declaring_falls : (s : State) (number : ℕ) (initial : Option r.Expression) → Less (option_weight initial + 2 + weight s.todo) (declaring s number initial)
+declaring_falls s number None = omega arith
+declaring_falls s number (Some e) = omega arith
 
-declaration_falls : (s : State) (k : List Item) (variables : List r.Variable) → Less (weight (declare variables ∷ k)) (declaration s k variables)
-declaration_falls s k [] = omega arith
-declaration_falls s k (variable ∷ rest) = of variable.initial
-  where
-    of : (initial : Option r.Expression) → Less (option_weight initial + variables_weight rest + 2 + weight k) (declaring s (declare rest ∷ k) variable.slot initial)
-    of None = omega arith
-    of (Some e) = omega arith
+less_weight : (n m : ℕ) (move : Move State) → n ≤ m → Less n move → Less m move
+less_weight n m (goes t) h less = omega arith
+less_weight n m (asks want after) h less = tt
 
-execution_falls : (s : State) (k : List Item) (statement : r.Statement) → Less (weight (execute statement ∷ k)) (execution s k statement)
-execution_falls s k (r.block body) = omega arith
-execution_falls s k r.empty = omega arith
-execution_falls s k (r.variables variables) = omega arith
-execution_falls s k (r.expression e) = omega arith
-execution_falls s k (r.when test body) = omega arith
-execution_falls s k (r.either test body other) = omega arith
-execution_falls s k (r.while test body) = omega arith
-execution_falls s k (r.for start test step body) = omega (arith, starting_weight start (round (record { test = test; step = step; body = body }) ∷ k))
-execution_falls s k r.break = omega (arith, after_loop_weight k)
-execution_falls s k r.continue = omega (arith, after_body_weight k)
-execution_falls s k (r.return None) = omega arith
-execution_falls s k (r.return (Some e)) = omega arith
-execution_falls s k (r.acquire lock mode) = omega (arith, reaching_lock_weight lock (ask (lock_place_of lock) mode ∷ k))
-execution_falls s k (r.release lock) = omega (arith, reaching_lock_weight lock (give (lock_place_of lock) ∷ k))
-execution_falls s k (r.barrier bar) = tt
-execution_falls s k (r.print parts) = omega arith
+declaration_falls : (s : State) (variables : List r.Variable) → Less (weight (declare variables ∷ s.todo)) (declaration s variables)
+declaration_falls s [] = omega arith
+declaration_falls s (variable ∷ rest) =
+    less_weight _ _ _ (omega arith) (declaring_falls (record s { todo = declare rest ∷ s.todo }) variable.slot variable.initial)
 
-statements_fall : (s : State) (k : List Item) (statements : r.Statements) → Less (weight (run statements ∷ k)) (execution_of_all s k statements)
-statements_fall s k r.none = omega arith
-statements_fall s k (r.then statement rest) = omega arith
+execution_falls : (s : State) (statement : r.Statement) → Less (weight (execute statement ∷ s.todo)) (execution s statement)
+execution_falls s (r.block body) = omega arith
+execution_falls s r.empty = omega arith
+execution_falls s (r.variables variables) = omega arith
+execution_falls s (r.expression e) = omega arith
+execution_falls s (r.when test body) = omega arith
+execution_falls s (r.either test body other) = omega arith
+execution_falls s (r.while test body) = omega arith
+execution_falls s (r.for start test step body) = omega (arith, starting_weight start (round (record { test = test; step = step; body = body }) ∷ s.todo))
+execution_falls s r.break = omega (arith, after_loop_weight s.todo)
+execution_falls s r.continue = omega (arith, after_body_weight s.todo)
+execution_falls s (r.return None) = omega arith
+execution_falls s (r.return (Some e)) = omega arith
+execution_falls s (r.acquire lock mode) = omega (arith, reaching_lock_weight lock (ask (lock_place_of lock) mode ∷ s.todo))
+execution_falls s (r.release lock) = omega (arith, reaching_lock_weight lock (give (lock_place_of lock) ∷ s.todo))
+execution_falls s (r.barrier bar) = tt
+execution_falls s (r.print parts) = omega arith
 
-gathering_falls : (s : State) (k : List Item) (parts : List r.Part) → Less (weight (gather parts ∷ k)) (gathering s k parts)
-gathering_falls s k [] = omega arith
-gathering_falls s k (r.part_text text ∷ rest) = omega arith
-gathering_falls s k (r.part_value e ∷ rest) = omega arith
+statements_fall : (s : State) (statements : r.Statements) → Less (weight (run statements ∷ s.todo)) (execution_of_all s statements)
+statements_fall s r.none = omega arith
+statements_fall s (r.then statement rest) = omega arith
+
+gathering_falls : (s : State) (parts : List r.Part) → Less (weight (gather parts ∷ s.todo)) (gathering s parts)
+gathering_falls s [] = omega arith
+gathering_falls s (r.part_text text ∷ rest) = omega arith
+gathering_falls s (r.part_value e ∷ rest) = omega arith
 
 branching_weight : (b : Bool) (k : List Item) (body : r.Statement) (other : Option r.Statement)
     → weight (branching k (cond b (Some body) other)) < weight (branch body other ∷ k)
@@ -174,41 +175,41 @@ less_return : (n : ℕ) (s : State) (value : ℤ) (outer : List Frame) → Less 
 less_return n s value [] = tt
 less_return n s value (caller ∷ outer) = tt
 
-act_falls : (functions : List r.Function) (s : State) (k : List Item) (item : Item) → Less (weight (item ∷ k)) (act functions s k item)
-act_falls functions s k (evaluate e) = evaluation_falls s k e
-act_falls functions s k (evaluate_all arguments) = all_falls s k arguments
-act_falls functions s k (test_index array line) = less_member _ s array line (top s.operands) _ (λ number. omega arith)
-act_falls functions s k (load place way) = less_load _ s k way place (omega arith)
-act_falls functions s k (store place) = less_store _ s k place (omega arith)
-act_falls functions s k (unary op line) = less_outcome _ s k (below s.operands) line (unary_value op (top s.operands)) (omega arith)
-act_falls functions s k (step_by op line) = less_outcome _ s k (below s.operands) line (step_value op (top s.operands)) (omega arith)
-act_falls functions s k (binary op line) =
-    less_outcome _ s k (below (below s.operands)) line (binary_value op (top (below s.operands)) (top s.operands)) (omega arith)
-act_falls functions s k (and_then e) = less_if _ (holds (top s.operands)) _ _ (omega arith) (omega arith)
-act_falls functions s k (or_else e) = less_if _ (holds (top s.operands)) _ _ (omega arith) (omega arith)
-act_falls functions s k to_truth = omega arith
-act_falls functions s k (choose a b) = choose_weight (holds (top s.operands)) a b k
-act_falls functions s k (enter number line) = less_if _ (nat_lt (length s.outer + 1) 256) _ _ tt tt
-act_falls functions s k discard = omega arith
-act_falls functions s k (execute statement) = execution_falls s k statement
-act_falls functions s k (run statements) = statements_fall s k statements
-act_falls functions s k (declare variables) = declaration_falls s k variables
-act_falls functions s k (branch body other) = branching_weight (holds (top s.operands)) k body other
-act_falls functions s k (round loop) = omega (arith, testing_weight k loop loop.test)
-act_falls functions s k (decide loop) = decide_weight (holds (top s.operands)) k loop
-act_falls functions s k (third_part loop) = omega (arith, stepping_weight (jump_back loop ∷ k) loop.step)
-act_falls functions s k (jump_back loop) = tt
-act_falls functions s k leave = less_return _ s (top s.operands) s.outer
-act_falls functions s k (ask lock mode) = less_lock _ s lock _ (λ l line rest. tt)
-act_falls functions s k (take_lock lock mode) = less_lock _ s lock _ (λ l line rest. tt)
-act_falls functions s k (give lock) = less_lock _ s lock _ (λ l line rest. tt)
-act_falls functions s k (cross bar) = tt
-act_falls functions s k (gather parts) = gathering_falls s k parts
-act_falls functions s k (print parts) = tt
+act_falls : (functions : List r.Function) (s : State) (item : Item) → Less (weight (item ∷ s.todo)) (act functions s item)
+act_falls functions s (evaluate e) = evaluation_falls s e
+act_falls functions s (evaluate_all arguments) = all_falls s arguments
+act_falls functions s (test_index array line) = less_member _ s array line (top s.operands) _ (λ number. omega arith)
+act_falls functions s (load place way) = less_load _ s way place (omega arith)
+act_falls functions s (store place) = less_store _ s place (omega arith)
+act_falls functions s (unary op line) = less_outcome _ s (below s.operands) line (unary_value op (top s.operands)) (omega arith)
+act_falls functions s (step_by op line) = less_outcome _ s (below s.operands) line (step_value op (top s.operands)) (omega arith)
+act_falls functions s (binary op line) =
+    less_outcome _ s (below (below s.operands)) line (binary_value op (top (below s.operands)) (top s.operands)) (omega arith)
+act_falls functions s (and_then e) = less_if _ (holds (top s.operands)) _ _ (omega arith) (omega arith)
+act_falls functions s (or_else e) = less_if _ (holds (top s.operands)) _ _ (omega arith) (omega arith)
+act_falls functions s to_truth = omega arith
+act_falls functions s (choose a b) = choose_weight (holds (top s.operands)) a b s.todo
+act_falls functions s (enter number line) = less_if _ (nat_lt (length s.outer + 1) 256) _ _ tt tt
+act_falls functions s discard = omega arith
+act_falls functions s (execute statement) = execution_falls s statement
+act_falls functions s (run statements) = statements_fall s statements
+act_falls functions s (declare variables) = declaration_falls s variables
+act_falls functions s (branch body other) = branching_weight (holds (top s.operands)) s.todo body other
+act_falls functions s (round loop) = omega (arith, testing_weight s.todo loop loop.test)
+act_falls functions s (decide loop) = decide_weight (holds (top s.operands)) s.todo loop
+act_falls functions s (third_part loop) = omega (arith, stepping_weight (jump_back loop ∷ s.todo) loop.step)
+act_falls functions s (jump_back loop) = tt
+act_falls functions s leave = less_return _ s (top s.operands) s.outer
+act_falls functions s (ask lock mode) = less_lock _ s lock _ (λ l line rest. tt)
+act_falls functions s (take_lock lock mode) = less_lock _ s lock _ (λ l line rest. tt)
+act_falls functions s (give lock) = less_lock _ s lock _ (λ l line rest. tt)
+act_falls functions s (cross bar) = tt
+act_falls functions s (gather parts) = gathering_falls s parts
+act_falls functions s (print parts) = tt
 
-first_falls : (functions : List r.Function) (s : State) (k : List Item) → Less (weight k) (act_first functions s k)
+first_falls : (functions : List r.Function) (s : State) (todo : List Item) → Less (weight todo) (act_first functions s todo)
 first_falls functions s [] = less_return _ s (pos 0) s.outer
-first_falls functions s (item ∷ k) = act_falls functions s k item
+first_falls functions s (item ∷ k) = act_falls functions (record s { todo = k }) item
 
 falls_in : (functions : List r.Function) (s : State) (life : Life) → Less (weight s.todo) (step_in functions s life)
 falls_in functions s going = first_falls functions s s.todo

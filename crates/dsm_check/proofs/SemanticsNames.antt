@@ -117,10 +117,10 @@ module _ (setup : Setup) (functions : List r.Function) (all : AreFunctionsWithin
   cell_of_array Sharing.Shared array i within test = member_below setup.cells array i within test
   cell_of_array Sharing.Private array i within test = tt
 
-  within_outcome : (s : State) (k : List Item) (rest : List ℤ) (line : ℕ) (outcome : Outcome) → IsStateWithin extent s → AreItemsWithin extent k
-      → KeepsWithin (comes_to s k rest line outcome)
-  within_outcome s k rest line (Ok value) p h = (h, p.1)
-  within_outcome s k rest line (Err fault) p h = within_fault s fault line p
+  within_outcome : (s : State) (rest : List ℤ) (line : ℕ) (outcome : Outcome) → IsStateWithin extent s
+      → KeepsWithin (comes_to s rest line outcome)
+  within_outcome s rest line (Ok value) p = p
+  within_outcome s rest line (Err fault) p = within_fault s fault line p
 
   place_within : (location : r.Location) → IsLocationWithin extent location → IsPlaceWithin extent (place_of location)
   place_within (r.variable number) w = tt
@@ -188,19 +188,19 @@ module _ (setup : Setup) (functions : List r.Function) (all : AreFunctionsWithin
   within_after_body (third_part loop ∷ k) h = h
   within_after_body (item ∷ k) h = within_after_body k h.1
 
-  within_load : (s : State) (k : List Item) (way : Use) (place : Place) → IsStateWithin extent s → IsPlaceWithin extent place → AreItemsWithin extent k
-      → KeepsWithin (load_at s k way place)
-  within_load s k way (slot number) p c h = (h, p.1)
-  within_load s k way (cell sharing number line) p c h = within_loads s sharing number line _ c (λ v. (h, p.1))
-  within_load s k way (member sharing array line) p c h =
-      within_member s array line (top s.operands) _ p (λ i test. within_loads s sharing _ line _ (cell_of_array sharing array i c test) (λ v. (h, p.1)))
+  within_load : (s : State) (way : Use) (place : Place) → IsStateWithin extent s → IsPlaceWithin extent place
+      → KeepsWithin (load_at s way place)
+  within_load s way (slot number) p c = p
+  within_load s way (cell sharing number line) p c = within_loads s sharing number line _ c (λ v. p)
+  within_load s way (member sharing array line) p c =
+      within_member s array line (top s.operands) _ p (λ i test. within_loads s sharing _ line _ (cell_of_array sharing array i c test) (λ v. p))
 
-  within_store : (s : State) (k : List Item) (place : Place) → IsStateWithin extent s → IsPlaceWithin extent place → AreItemsWithin extent k
-      → KeepsWithin (store_at s k place)
-  within_store s k (slot number) p c h = (h, p.1)
-  within_store s k (cell sharing number line) p c h = within_stores sharing number line _ _ c (h, p.1)
-  within_store s k (member sharing array line) p c h =
-      within_member s array line (top (below s.operands)) _ p (λ i test. within_stores sharing _ line _ _ (cell_of_array sharing array i c test) (h, p.1))
+  within_store : (s : State) (place : Place) → IsStateWithin extent s → IsPlaceWithin extent place
+      → KeepsWithin (store_at s place)
+  within_store s (slot number) p c = p
+  within_store s (cell sharing number line) p c = within_stores sharing number line _ _ c p
+  within_store s (member sharing array line) p c =
+      within_member s array line (top (below s.operands)) _ p (λ i test. within_stores sharing _ line _ _ (cell_of_array sharing array i c test) p)
 
   within_lock : (s : State) (lock : LockPlace) (go : Lock → ℕ → List ℤ → Move State) → IsStateWithin extent s → IsLockPlaceWithin extent lock
       → ((l : Lock) (line : ℕ) (rest : List ℤ) → l.0 < setup.locks → KeepsWithin (go l line rest)) → KeepsWithin (at_lock s lock go)
@@ -208,110 +208,110 @@ module _ (setup : Setup) (functions : List r.Function) (all : AreFunctionsWithin
   within_lock s (lock_member array line) go p c h =
       within_member s array line (top s.operands) _ p (λ i test. h _ line (below s.operands) (member_below setup.locks array i c test))
 
-  within_evaluation : (s : State) (k : List Item) (e : r.Expression) → IsStateWithin extent s → IsWithin extent e → AreItemsWithin extent k → KeepsWithin (evaluation s k e)
-  within_evaluation s k (r.number n) p w h = (h, p.1)
-  within_evaluation s k (r.load location) p w h = (within_reaching location _ w (place_within location w, h), p.1)
-  within_evaluation s k (r.call function arguments line) p w h = ((w, (tt, h)), p.1)
-  within_evaluation s k (r.unary op line e) p w h = ((w, (tt, h)), p.1)
-  within_evaluation s k (r.prefix op line location) p w h =
-      (within_reaching location _ w (place_within location w, (tt, (place_within location w, h))), p.1)
-  within_evaluation s k (r.postfix location op line) p w h =
-      (within_reaching location _ w (place_within location w, (tt, (place_within location w, (tt, h)))), p.1)
-  within_evaluation s k (r.binary a op line b) p w h = ((w.0, within_second op line b k w.1 h), p.1)
-  within_evaluation s k (r.choice test a b) p w h = ((w.0, ((w.1, w.2), h)), p.1)
-  within_evaluation s k (r.assign location op line e) p w h =
-      (within_reaching location _ w.0 (within_assigning (operator_of op) line (place_of location) e k (place_within location w.0) w.1 h), p.1)
+  within_evaluation : (s : State) (e : r.Expression) → IsStateWithin extent s → IsWithin extent e → KeepsWithin (evaluation s e)
+  within_evaluation s (r.number n) p w = p
+  within_evaluation s (r.load location) p w = (within_reaching location _ w (place_within location w, p.0), p.1)
+  within_evaluation s (r.call function arguments line) p w = ((w, (tt, p.0)), p.1)
+  within_evaluation s (r.unary op line e) p w = ((w, (tt, p.0)), p.1)
+  within_evaluation s (r.prefix op line location) p w =
+      (within_reaching location _ w (place_within location w, (tt, (place_within location w, p.0))), p.1)
+  within_evaluation s (r.postfix location op line) p w =
+      (within_reaching location _ w (place_within location w, (tt, (place_within location w, (tt, p.0)))), p.1)
+  within_evaluation s (r.binary a op line b) p w = ((w.0, within_second op line b s.todo w.1 p.0), p.1)
+  within_evaluation s (r.choice test a b) p w = ((w.0, ((w.1, w.2), p.0)), p.1)
+  within_evaluation s (r.assign location op line e) p w =
+      (within_reaching location _ w.0 (within_assigning (operator_of op) line (place_of location) e s.todo (place_within location w.0) w.1 p.0), p.1)
 
-  within_all : (s : State) (k : List Item) (arguments : r.Expressions) → IsStateWithin extent s → AreWithin extent arguments → AreItemsWithin extent k
-      → KeepsWithin (evaluation_of_all s k arguments)
-  within_all s k r.nil p w h = (h, p.1)
-  within_all s k (r.cons e rest) p w h = ((w.0, (w.1, h)), p.1)
+  within_all : (s : State) (arguments : r.Expressions) → IsStateWithin extent s → AreWithin extent arguments
+      → KeepsWithin (evaluation_of_all s arguments)
+  within_all s r.nil p w = p
+  within_all s (r.cons e rest) p w = ((w.0, (w.1, p.0)), p.1)
 
-  within_declaring : (s : State) (k : List Item) (number : ℕ) (initial : Option r.Expression) → IsStateWithin extent s → IsOptionWithin extent initial
-      → AreItemsWithin extent k → KeepsWithin (declaring s k number initial)
-  within_declaring s k number None p w h = (h, p.1)
-  within_declaring s k number (Some e) p w h = ((w, (tt, (tt, h))), p.1)
+  within_declaring : (s : State) (number : ℕ) (initial : Option r.Expression) → IsStateWithin extent s → IsOptionWithin extent initial
+      → KeepsWithin (declaring s number initial)
+  within_declaring s number None p w = p
+  within_declaring s number (Some e) p w = ((w, (tt, (tt, p.0))), p.1)
 
-  within_declaration : (s : State) (k : List Item) (variables : List r.Variable) → IsStateWithin extent s → AreVariablesWithin extent variables
-      → AreItemsWithin extent k → KeepsWithin (declaration s k variables)
-  within_declaration s k [] p w h = (h, p.1)
-  within_declaration s k (variable ∷ rest) p w h = within_declaring s (declare rest ∷ k) variable.slot variable.initial p w.0 (w.1, h)
+  within_declaration : (s : State) (variables : List r.Variable) → IsStateWithin extent s → AreVariablesWithin extent variables
+      → KeepsWithin (declaration s variables)
+  within_declaration s [] p w = p
+  within_declaration s (variable ∷ rest) p w = within_declaring (record s { todo = declare rest ∷ s.todo }) variable.slot variable.initial ((w.1, p.0), p.1) w.0
 
-  within_execution : (s : State) (k : List Item) (statement : r.Statement) → IsStateWithin extent s → IsStatementWithin extent statement → AreItemsWithin extent k
-      → KeepsWithin (execution s k statement)
-  within_execution s k (r.block body) p w h = ((w, h), p.1)
-  within_execution s k r.empty p w h = (h, p.1)
-  within_execution s k (r.variables variables) p w h = ((w, h), p.1)
-  within_execution s k (r.expression e) p w h = ((w, (tt, h)), p.1)
-  within_execution s k (r.when test body) p w h = ((w.0, ((w.1, tt), h)), p.1)
-  within_execution s k (r.either test body other) p w h = ((w.0, ((w.1, w.2), h)), p.1)
-  within_execution s k (r.while test body) p w h = (((w.0, tt, w.1), h), p.1)
-  within_execution s k (r.for start test step body) p w h = (within_starting start _ w.0 ((w.1, w.2, w.3), h), p.1)
-  within_execution s k r.break p w h = (within_after_loop k h, p.1)
-  within_execution s k r.continue p w h = (within_after_body k h, p.1)
-  within_execution s k (r.return None) p w h = ((tt, h), p.1)
-  within_execution s k (r.return (Some e)) p w h = ((w, (tt, h)), p.1)
-  within_execution s k (r.acquire lock mode) p w h = (within_reaching_lock lock _ w (lock_place_within lock w, h), p.1)
-  within_execution s k (r.release lock) p w h = (within_reaching_lock lock _ w (lock_place_within lock w, h), p.1)
-  within_execution s k (r.barrier bar) p w h = (w, λ answer. ((w, h), p.1))
-  within_execution s k (r.print parts) p w h = ((w, (tt, h)), p.1)
+  within_execution : (s : State) (statement : r.Statement) → IsStateWithin extent s → IsStatementWithin extent statement
+      → KeepsWithin (execution s statement)
+  within_execution s (r.block body) p w = ((w, p.0), p.1)
+  within_execution s r.empty p w = p
+  within_execution s (r.variables variables) p w = ((w, p.0), p.1)
+  within_execution s (r.expression e) p w = ((w, (tt, p.0)), p.1)
+  within_execution s (r.when test body) p w = ((w.0, ((w.1, tt), p.0)), p.1)
+  within_execution s (r.either test body other) p w = ((w.0, ((w.1, w.2), p.0)), p.1)
+  within_execution s (r.while test body) p w = (((w.0, tt, w.1), p.0), p.1)
+  within_execution s (r.for start test step body) p w = (within_starting start _ w.0 ((w.1, w.2, w.3), p.0), p.1)
+  within_execution s r.break p w = (within_after_loop s.todo p.0, p.1)
+  within_execution s r.continue p w = (within_after_body s.todo p.0, p.1)
+  within_execution s (r.return None) p w = ((tt, p.0), p.1)
+  within_execution s (r.return (Some e)) p w = ((w, (tt, p.0)), p.1)
+  within_execution s (r.acquire lock mode) p w = (within_reaching_lock lock _ w (lock_place_within lock w, p.0), p.1)
+  within_execution s (r.release lock) p w = (within_reaching_lock lock _ w (lock_place_within lock w, p.0), p.1)
+  within_execution s (r.barrier bar) p w = (w, λ answer. ((w, p.0), p.1))
+  within_execution s (r.print parts) p w = ((w, (tt, p.0)), p.1)
 
-  within_statements : (s : State) (k : List Item) (statements : r.Statements) → IsStateWithin extent s → AreStatementsWithin extent statements
-      → AreItemsWithin extent k → KeepsWithin (execution_of_all s k statements)
-  within_statements s k r.none p w h = (h, p.1)
-  within_statements s k (r.then statement rest) p w h = ((w.0, (w.1, h)), p.1)
+  within_statements : (s : State) (statements : r.Statements) → IsStateWithin extent s → AreStatementsWithin extent statements
+      → KeepsWithin (execution_of_all s statements)
+  within_statements s r.none p w = p
+  within_statements s (r.then statement rest) p w = ((w.0, (w.1, p.0)), p.1)
 
-  within_gathering : (s : State) (k : List Item) (parts : List r.Part) → IsStateWithin extent s → ArePartsWithin extent parts → AreItemsWithin extent k
-      → KeepsWithin (gathering s k parts)
-  within_gathering s k [] p w h = (h, p.1)
-  within_gathering s k (r.part_text text ∷ rest) p w h = ((w.1, h), p.1)
-  within_gathering s k (r.part_value e ∷ rest) p w h = ((w.0, (w.1, h)), p.1)
+  within_gathering : (s : State) (parts : List r.Part) → IsStateWithin extent s → ArePartsWithin extent parts
+      → KeepsWithin (gathering s parts)
+  within_gathering s [] p w = p
+  within_gathering s (r.part_text text ∷ rest) p w = ((w.1, p.0), p.1)
+  within_gathering s (r.part_value e ∷ rest) p w = ((w.0, (w.1, p.0)), p.1)
 
   within_returns : (s : State) (value : ℤ) (outer : List Frame) → IsStateWithin extent s → AreFramesWithin extent outer → KeepsWithin (returns s value outer)
   within_returns s value [] p h = (tt, λ answer. p)
   within_returns s value (caller ∷ outer) p h = (tt, λ answer. h)
 
-  within_entering : (s : State) (k : List Item) (line : ℕ) (function : r.Function) → IsStateWithin extent s → AreItemsWithin extent k
-      → AreStatementsWithin extent function.body → KeepsWithin (entering s k line function)
-  within_entering s k line function p h w =
-      within_if (nat_lt (length s.outer + 1) 256) (asks Want.Quiet (λ answer. entered s k function)) (faults s Fault.Depth line)
-      (λ test. (tt, λ answer. ((w, tt), (h, p.1)))) (within_fault s Fault.Depth line p)
+  within_entering : (s : State) (line : ℕ) (function : r.Function) → IsStateWithin extent s
+      → AreStatementsWithin extent function.body → KeepsWithin (entering s line function)
+  within_entering s line function p w =
+      within_if (nat_lt (length s.outer + 1) 256) (asks Want.Quiet (λ answer. entered s function)) (faults s Fault.Depth line)
+      (λ test. (tt, λ answer. ((w, tt), p))) (within_fault s Fault.Depth line p)
 
-  within_act : (s : State) (k : List Item) (item : Item) → IsStateWithin extent s → IsItemWithin extent item → AreItemsWithin extent k
-      → KeepsWithin (act functions s k item)
-  within_act s k (evaluate e) p w h = within_evaluation s k e p w h
-  within_act s k (evaluate_all arguments) p w h = within_all s k arguments p w h
-  within_act s k (test_index array line) p w h = within_member s array line (top s.operands) _ p (λ i test. (h, p.1))
-  within_act s k (load place way) p w h = within_load s k way place p w h
-  within_act s k (store place) p w h = within_store s k place p w h
-  within_act s k (unary op line) p w h = within_outcome s k _ line (unary_value op (top s.operands)) p h
-  within_act s k (step_by op line) p w h = within_outcome s k _ line (step_value op (top s.operands)) p h
-  within_act s k (binary op line) p w h = within_outcome s k _ line (binary_value op (top (below s.operands)) (top s.operands)) p h
-  within_act s k (and_then e) p w h = within_if (holds (top s.operands)) _ _ (λ test. ((w, (tt, h)), p.1)) (h, p.1)
-  within_act s k (or_else e) p w h = within_if (holds (top s.operands)) _ _ (λ test. (h, p.1)) ((w, (tt, h)), p.1)
-  within_act s k to_truth p w h = (h, p.1)
-  within_act s k (choose a b) p w h = ((within_choice (holds (top s.operands)) a b w.0 w.1, h), p.1)
-  within_act s k (enter number line) p w h = within_entering s k line (numbered (slice_get functions number)) p h (body_within extent functions number all)
-  within_act s k discard p w h = (h, p.1)
-  within_act s k (execute statement) p w h = within_execution s k statement p w h
-  within_act s k (run statements) p w h = within_statements s k statements p w h
-  within_act s k (declare variables) p w h = within_declaration s k variables p w h
-  within_act s k (branch body other) p w h = (within_branching (holds (top s.operands)) k body other w.0 w.1 h, p.1)
-  within_act s k (round loop) p w h = (within_testing k loop loop.test w.0 w h, p.1)
-  within_act s k (decide loop) p w h = (items_if (holds (top s.operands)) _ k (w.2, (w, h)) h, p.1)
-  within_act s k (third_part loop) p w h = (within_stepping (jump_back loop ∷ k) loop.step w.1 (w, h), p.1)
-  within_act s k (jump_back loop) p w h = (tt, λ answer. ((w, h), p.1))
-  within_act s k leave p w h = within_returns s (top s.operands) s.outer p p.1
-  within_act s k (ask lock mode) p w h = within_lock s lock _ p w (λ l line rest c. (c, λ answer. ((w, h), p.1)))
-  within_act s k (take_lock lock mode) p w h = within_lock s lock _ p w (λ l line rest c. (c, λ answer. (h, p.1)))
-  within_act s k (give lock) p w h = within_lock s lock _ p w (λ l line rest c. (c, λ answer. (h, p.1)))
-  within_act s k (cross bar) p w h = (w, λ answer. (h, p.1))
-  within_act s k (gather parts) p w h = within_gathering s k parts p w h
-  within_act s k (print parts) p w h = (tt, λ answer. (h, p.1))
+  within_act : (s : State) (item : Item) → IsStateWithin extent s → IsItemWithin extent item
+      → KeepsWithin (act functions s item)
+  within_act s (evaluate e) p w = within_evaluation s e p w
+  within_act s (evaluate_all arguments) p w = within_all s arguments p w
+  within_act s (test_index array line) p w = within_member s array line (top s.operands) _ p (λ i test. p)
+  within_act s (load place way) p w = within_load s way place p w
+  within_act s (store place) p w = within_store s place p w
+  within_act s (unary op line) p w = within_outcome s _ line (unary_value op (top s.operands)) p
+  within_act s (step_by op line) p w = within_outcome s _ line (step_value op (top s.operands)) p
+  within_act s (binary op line) p w = within_outcome s _ line (binary_value op (top (below s.operands)) (top s.operands)) p
+  within_act s (and_then e) p w = within_if (holds (top s.operands)) _ _ (λ test. ((w, (tt, p.0)), p.1)) p
+  within_act s (or_else e) p w = within_if (holds (top s.operands)) _ _ (λ test. p) ((w, (tt, p.0)), p.1)
+  within_act s to_truth p w = p
+  within_act s (choose a b) p w = ((within_choice (holds (top s.operands)) a b w.0 w.1, p.0), p.1)
+  within_act s (enter number line) p w = within_entering s line (numbered (slice_get functions number)) p (body_within extent functions number all)
+  within_act s discard p w = p
+  within_act s (execute statement) p w = within_execution s statement p w
+  within_act s (run statements) p w = within_statements s statements p w
+  within_act s (declare variables) p w = within_declaration s variables p w
+  within_act s (branch body other) p w = (within_branching (holds (top s.operands)) s.todo body other w.0 w.1 p.0, p.1)
+  within_act s (round loop) p w = (within_testing s.todo loop loop.test w.0 w p.0, p.1)
+  within_act s (decide loop) p w = (items_if (holds (top s.operands)) _ s.todo (w.2, (w, p.0)) p.0, p.1)
+  within_act s (third_part loop) p w = (within_stepping (jump_back loop ∷ s.todo) loop.step w.1 (w, p.0), p.1)
+  within_act s (jump_back loop) p w = (tt, λ answer. ((w, p.0), p.1))
+  within_act s leave p w = within_returns s (top s.operands) s.outer p p.1
+  within_act s (ask lock mode) p w = within_lock s lock _ p w (λ l line rest c. (c, λ answer. ((w, p.0), p.1)))
+  within_act s (take_lock lock mode) p w = within_lock s lock _ p w (λ l line rest c. (c, λ answer. p))
+  within_act s (give lock) p w = within_lock s lock _ p w (λ l line rest c. (c, λ answer. p))
+  within_act s (cross bar) p w = (w, λ answer. p)
+  within_act s (gather parts) p w = within_gathering s parts p w
+  within_act s (print parts) p w = (tt, λ answer. p)
 
   within_first : (s : State) (todo : List Item) → IsStateWithin extent s → AreItemsWithin extent todo → KeepsWithin (act_first functions s todo)
   within_first s [] p h = within_returns s (pos 0) s.outer p p.1
-  within_first s (item ∷ k) p h = within_act s k item p h.0 h.1
+  within_first s (item ∷ k) p h = within_act (record s { todo = k }) item (h.1, p.1) h.0
 
   within_in : (s : State) (life : Life) → IsStateWithin extent s → KeepsWithin (step_in functions s life)
   within_in s going p = within_first s s.todo p p.0

@@ -67,9 +67,9 @@ module _ (functions : List r.Function) where
   keeps_stores Sharing.Shared number line value after h = λ answer. h
   keeps_stores Sharing.Private number line value after h = h
 
-  keeps_outcome : (s : State) (k : List Item) (rest : List ℤ) (line : ℕ) (outcome : Outcome) → IsPlainState s → ArePlain k → Keeps (comes_to s k rest line outcome)
-  keeps_outcome s k rest line (Ok value) p h = (h, p.1)
-  keeps_outcome s k rest line (Err fault) p h = λ answer. p
+  keeps_outcome : (s : State) (rest : List ℤ) (line : ℕ) (outcome : Outcome) → IsPlainState s → Keeps (comes_to s rest line outcome)
+  keeps_outcome s rest line (Ok value) p = p
+  keeps_outcome s rest line (Err fault) p = λ answer. p
 
   plain_reaching : (location : r.Location) (k : List Item) → ArePlain k → ArePlain (reaching location k)
   plain_reaching (r.variable number) k h = h
@@ -120,149 +120,149 @@ module _ (functions : List r.Function) where
   plain_after_body (third_part loop ∷ k) h = h
   plain_after_body (item ∷ k) h = plain_after_body k h.1
 
-  keeps_load : (s : State) (k : List Item) (way : Use) (place : Place) → IsPlainState s → ArePlain k → Keeps (load_at s k way place)
-  keeps_load s k way (slot number) p h = (h, p.1)
-  keeps_load s k way (cell sharing number line) p h = keeps_loads s sharing number line _ (λ v. (h, p.1))
-  keeps_load s k way (member sharing array line) p h =
-      keeps_member s array line (top s.operands) _ p (λ number. keeps_loads s sharing number line _ (λ v. (h, p.1)))
+  keeps_load : (s : State) (way : Use) (place : Place) → IsPlainState s → Keeps (load_at s way place)
+  keeps_load s way (slot number) p = p
+  keeps_load s way (cell sharing number line) p = keeps_loads s sharing number line _ (λ v. p)
+  keeps_load s way (member sharing array line) p =
+      keeps_member s array line (top s.operands) _ p (λ number. keeps_loads s sharing number line _ (λ v. p))
 
-  keeps_store : (s : State) (k : List Item) (place : Place) → IsPlainState s → ArePlain k → Keeps (store_at s k place)
-  keeps_store s k (slot number) p h = (h, p.1)
-  keeps_store s k (cell sharing number line) p h = keeps_stores sharing number line _ _ (h, p.1)
-  keeps_store s k (member sharing array line) p h =
-      keeps_member s array line (top (below s.operands)) _ p (λ number. keeps_stores sharing number line _ _ (h, p.1))
+  keeps_store : (s : State) (place : Place) → IsPlainState s → Keeps (store_at s place)
+  keeps_store s (slot number) p = p
+  keeps_store s (cell sharing number line) p = keeps_stores sharing number line _ _ p
+  keeps_store s (member sharing array line) p =
+      keeps_member s array line (top (below s.operands)) _ p (λ number. keeps_stores sharing number line _ _ p)
 
   keeps_lock : (s : State) (lock : LockPlace) (go : Lock → ℕ → List ℤ → Move State) → IsPlainState s → ((l : Lock) (line : ℕ) (rest : List ℤ) → Keeps (go l line rest))
       → Keeps (at_lock s lock go)
   keeps_lock s (one_lock lock line) go p h = h lock line s.operands
   keeps_lock s (lock_member array line) go p h = keeps_member s array line (top s.operands) _ p (λ number. h _ line (below s.operands))
 
-  keeps_evaluation : (s : State) (k : List Item) (e : r.Expression) → IsPlainState s → ArePlain k → Keeps (evaluation s k e)
-  keeps_evaluation s k (r.number n) p h = (h, p.1)
-  keeps_evaluation s k (r.load location) p h = (plain_reaching location _ (tt, h), p.1)
-  keeps_evaluation s k (r.call function arguments line) p h = ((tt, (tt, h)), p.1)
-  keeps_evaluation s k (r.unary op line e) p h = ((tt, (tt, h)), p.1)
-  keeps_evaluation s k (r.prefix op line location) p h = (plain_reaching location _ (tt, (tt, (tt, h))), p.1)
-  keeps_evaluation s k (r.postfix location op line) p h = (plain_reaching location _ (tt, (tt, (tt, (tt, h)))), p.1)
-  keeps_evaluation s k (r.binary a op line b) p h = ((tt, plain_second op line b k h), p.1)
-  keeps_evaluation s k (r.choice test a b) p h = ((tt, (tt, h)), p.1)
-  keeps_evaluation s k (r.assign location op line e) p h =
-      (plain_reaching location _ (plain_assigning (operator_of op) line (place_of location) e k h), p.1)
+  keeps_evaluation : (s : State) (e : r.Expression) → IsPlainState s → Keeps (evaluation s e)
+  keeps_evaluation s (r.number n) p = p
+  keeps_evaluation s (r.load location) p = (plain_reaching location _ (tt, p.0), p.1)
+  keeps_evaluation s (r.call function arguments line) p = ((tt, (tt, p.0)), p.1)
+  keeps_evaluation s (r.unary op line e) p = ((tt, (tt, p.0)), p.1)
+  keeps_evaluation s (r.prefix op line location) p = (plain_reaching location _ (tt, (tt, (tt, p.0))), p.1)
+  keeps_evaluation s (r.postfix location op line) p = (plain_reaching location _ (tt, (tt, (tt, (tt, p.0)))), p.1)
+  keeps_evaluation s (r.binary a op line b) p = ((tt, plain_second op line b s.todo p.0), p.1)
+  keeps_evaluation s (r.choice test a b) p = ((tt, (tt, p.0)), p.1)
+  keeps_evaluation s (r.assign location op line e) p =
+      (plain_reaching location _ (plain_assigning (operator_of op) line (place_of location) e s.todo p.0), p.1)
 
-  keeps_all : (s : State) (k : List Item) (arguments : r.Expressions) → IsPlainState s → ArePlain k → Keeps (evaluation_of_all s k arguments)
-  keeps_all s k r.nil p h = (h, p.1)
-  keeps_all s k (r.cons e rest) p h = ((tt, (tt, h)), p.1)
+  keeps_all : (s : State) (arguments : r.Expressions) → IsPlainState s → Keeps (evaluation_of_all s arguments)
+  keeps_all s r.nil p = p
+  keeps_all s (r.cons e rest) p = ((tt, (tt, p.0)), p.1)
 
-  keeps_declaring : (s : State) (k : List Item) (number : ℕ) (initial : Option r.Expression) → IsPlainState s → ArePlain k → Keeps (declaring s k number initial)
-  keeps_declaring s k number None p h = (h, p.1)
-  keeps_declaring s k number (Some e) p h = ((tt, (tt, (tt, h))), p.1)
+  keeps_declaring : (s : State) (number : ℕ) (initial : Option r.Expression) → IsPlainState s → Keeps (declaring s number initial)
+  keeps_declaring s number None p = p
+  keeps_declaring s number (Some e) p = ((tt, (tt, (tt, p.0))), p.1)
 
-  keeps_declaration : (s : State) (k : List Item) (variables : List r.Variable) → IsPlainState s → ArePlain k → Keeps (declaration s k variables)
-  keeps_declaration s k [] p h = (h, p.1)
-  keeps_declaration s k (variable ∷ rest) p h = keeps_declaring s (declare rest ∷ k) variable.slot variable.initial p (tt, h)
+  keeps_declaration : (s : State) (variables : List r.Variable) → IsPlainState s → Keeps (declaration s variables)
+  keeps_declaration s [] p = p
+  keeps_declaration s (variable ∷ rest) p = keeps_declaring (record s { todo = declare rest ∷ s.todo }) variable.slot variable.initial ((tt, p.0), p.1)
 
-  keeps_execution : (s : State) (k : List Item) (statement : r.Statement) → IsPlainState s → ArePlain k → s.life ≡ going → Keeps (execution s k statement)
-  keeps_execution s k (r.block body) p h going_on = ((tt, h), p.1)
-  keeps_execution s k r.empty p h going_on = (h, p.1)
-  keeps_execution s k (r.variables variables) p h going_on = ((tt, h), p.1)
-  keeps_execution s k (r.expression e) p h going_on = ((tt, (tt, h)), p.1)
-  keeps_execution s k (r.when test body) p h going_on = ((tt, (tt, h)), p.1)
-  keeps_execution s k (r.either test body other) p h going_on = ((tt, (tt, h)), p.1)
-  keeps_execution s k (r.while test body) p h going_on = ((tt, h), p.1)
-  keeps_execution s k (r.for start test step body) p h going_on = (plain_starting start _ (tt, h), p.1)
-  keeps_execution s k r.break p h going_on = (plain_after_loop k h, p.1)
-  keeps_execution s k r.continue p h going_on = (plain_after_body k h, p.1)
-  keeps_execution s k (r.return None) p h going_on = ((tt, h), p.1)
-  keeps_execution s k (r.return (Some e)) p h going_on = ((tt, (tt, h)), p.1)
-  keeps_execution s k (r.acquire lock mode) p h going_on = (plain_reaching_lock lock _ (tt, h), p.1)
-  keeps_execution s k (r.release lock) p h going_on = (plain_reaching_lock lock _ (tt, h), p.1)
-  keeps_execution s k (r.barrier bar) p h going_on = λ answer. record {
-    after = λ answer. record s { todo = k };
-    is = ap (step_in functions (record s { todo = cross bar ∷ k })) going_on;
-    plain = λ answer. (h, p.1);
+  keeps_execution : (s : State) (statement : r.Statement) → IsPlainState s → s.life ≡ going → Keeps (execution s statement)
+  keeps_execution s (r.block body) p going_on = ((tt, p.0), p.1)
+  keeps_execution s r.empty p going_on = p
+  keeps_execution s (r.variables variables) p going_on = ((tt, p.0), p.1)
+  keeps_execution s (r.expression e) p going_on = ((tt, (tt, p.0)), p.1)
+  keeps_execution s (r.when test body) p going_on = ((tt, (tt, p.0)), p.1)
+  keeps_execution s (r.either test body other) p going_on = ((tt, (tt, p.0)), p.1)
+  keeps_execution s (r.while test body) p going_on = ((tt, p.0), p.1)
+  keeps_execution s (r.for start test step body) p going_on = (plain_starting start _ (tt, p.0), p.1)
+  keeps_execution s r.break p going_on = (plain_after_loop s.todo p.0, p.1)
+  keeps_execution s r.continue p going_on = (plain_after_body s.todo p.0, p.1)
+  keeps_execution s (r.return None) p going_on = ((tt, p.0), p.1)
+  keeps_execution s (r.return (Some e)) p going_on = ((tt, (tt, p.0)), p.1)
+  keeps_execution s (r.acquire lock mode) p going_on = (plain_reaching_lock lock _ (tt, p.0), p.1)
+  keeps_execution s (r.release lock) p going_on = (plain_reaching_lock lock _ (tt, p.0), p.1)
+  keeps_execution s (r.barrier bar) p going_on = λ answer. record {
+    after = λ answer. s;
+    is = ap (step_in functions (record s { todo = cross bar ∷ s.todo })) going_on;
+    plain = λ answer. p;
   }
-  keeps_execution s k (r.print parts) p h going_on = ((tt, (tt, h)), p.1)
+  keeps_execution s (r.print parts) p going_on = ((tt, (tt, p.0)), p.1)
 
-  keeps_statements : (s : State) (k : List Item) (statements : r.Statements) → IsPlainState s → ArePlain k → Keeps (execution_of_all s k statements)
-  keeps_statements s k r.none p h = (h, p.1)
-  keeps_statements s k (r.then statement rest) p h = ((tt, (tt, h)), p.1)
+  keeps_statements : (s : State) (statements : r.Statements) → IsPlainState s → Keeps (execution_of_all s statements)
+  keeps_statements s r.none p = p
+  keeps_statements s (r.then statement rest) p = ((tt, (tt, p.0)), p.1)
 
-  keeps_gathering : (s : State) (k : List Item) (parts : List r.Part) → IsPlainState s → ArePlain k → Keeps (gathering s k parts)
-  keeps_gathering s k [] p h = (h, p.1)
-  keeps_gathering s k (r.part_text text ∷ rest) p h = ((tt, h), p.1)
-  keeps_gathering s k (r.part_value e ∷ rest) p h = ((tt, (tt, h)), p.1)
+  keeps_gathering : (s : State) (parts : List r.Part) → IsPlainState s → Keeps (gathering s parts)
+  keeps_gathering s [] p = p
+  keeps_gathering s (r.part_text text ∷ rest) p = ((tt, p.0), p.1)
+  keeps_gathering s (r.part_value e ∷ rest) p = ((tt, (tt, p.0)), p.1)
 
   keeps_returns : (s : State) (value : ℤ) (outer : List Frame) → IsPlainState s → FramesArePlain outer → Keeps (returns s value outer)
   keeps_returns s value [] p h = λ answer. p
   keeps_returns s value (caller ∷ outer) p h = λ answer. h
 
   -- an ask and the take behind it find the same lock
-  module _ (s : State) (k : List Item) (lock : LockPlace) (mode : Mode) (p : IsPlainState s) (h : ArePlain k) where
+  module _ (s : State) (lock : LockPlace) (mode : Mode) (p : IsPlainState s) where
     abbrev waiting : State
-    waiting = record s { todo = take_lock lock mode ∷ k }
+    waiting = record s { todo = take_lock lock mode ∷ s.todo }
 
     abbrev asking : Lock → ℕ → List ℤ → Move State
     asking l line rest = asks (Want.Ask l mode line) (λ answer. waiting)
 
     abbrev taking : Lock → ℕ → List ℤ → Move State
-    taking l line rest = asks (Want.Take l mode) (λ answer. record s { todo = k; operands = rest })
+    taking l line rest = asks (Want.Take l mode) (λ answer. record s { operands = rest })
 
     asks_then : (l : Lock) (line : ℕ) (rest : List ℤ) → step functions waiting ≡ taking l line rest → Keeps (asking l line rest)
-    asks_then l line rest is = λ answer. record { after = λ answer. record s { todo = k; operands = rest }; is = is; plain = λ answer. (h, p.1) }
+    asks_then l line rest is = λ answer. record { after = λ answer. record s { operands = rest }; is = is; plain = λ answer. p }
 
     asks_if : (array : Array) (line : ℕ) (number : ℕ) (test : Bool)
-        → step functions waiting ≡ cond test (taking (record { 0 = number }) line (below s.operands)) (faults waiting Fault.Index line)
+        → step functions waiting ≡ cond test (taking (record { 0 = number }) line (below s.operands)) (faults s Fault.Index line)
         → Keeps (cond test (asking (record { 0 = number }) line (below s.operands)) (faults s Fault.Index line))
     asks_if array line number true is = asks_then (record { 0 = number }) line (below s.operands) is
     asks_if array line number false is = λ answer. p
 
     asks_member : (array : Array) (line : ℕ) (index : ℤ)
-        → step functions waiting ≡ at_member waiting array line index (λ number. taking (record { 0 = number }) line (below s.operands))
+        → step functions waiting ≡ at_member s array line index (λ number. taking (record { 0 = number }) line (below s.operands))
         → Keeps (at_member s array line index (λ number. asking (record { 0 = number }) line (below s.operands)))
     asks_member array line (pos i) is = asks_if array line (array.first + i) (nat_lt i array.size) is
     asks_member array line (negsuc i) is = λ answer. p
 
-  keeps_ask : (s : State) (k : List Item) (lock : LockPlace) (mode : Mode) → IsPlainState s → ArePlain k → s.life ≡ going → Keeps (act functions s k (ask lock mode))
-  keeps_ask s k (one_lock l line) mode p h going_on =
-      asks_then s k (one_lock l line) mode p h l line s.operands (ap (step_in functions (record s { todo = take_lock (one_lock l line) mode ∷ k })) going_on)
-  keeps_ask s k (lock_member array line) mode p h going_on =
-      asks_member s k (lock_member array line) mode p h array line (top s.operands)
-      (ap (step_in functions (record s { todo = take_lock (lock_member array line) mode ∷ k })) going_on)
+  keeps_ask : (s : State) (lock : LockPlace) (mode : Mode) → IsPlainState s → s.life ≡ going → Keeps (act functions s (ask lock mode))
+  keeps_ask s (one_lock l line) mode p going_on =
+      asks_then s (one_lock l line) mode p l line s.operands (ap (step_in functions (record s { todo = take_lock (one_lock l line) mode ∷ s.todo })) going_on)
+  keeps_ask s (lock_member array line) mode p going_on =
+      asks_member s (lock_member array line) mode p array line (top s.operands)
+      (ap (step_in functions (record s { todo = take_lock (lock_member array line) mode ∷ s.todo })) going_on)
 
-  keeps_act : (s : State) (k : List Item) (item : Item) → IsPlainState s → IsPlain item → ArePlain k → s.life ≡ going → Keeps (act functions s k item)
-  keeps_act s k (evaluate e) p i h going_on = keeps_evaluation s k e p h
-  keeps_act s k (evaluate_all arguments) p i h going_on = keeps_all s k arguments p h
-  keeps_act s k (test_index array line) p i h going_on = keeps_member s array line (top s.operands) _ p (λ number. (h, p.1))
-  keeps_act s k (load place way) p i h going_on = keeps_load s k way place p h
-  keeps_act s k (store place) p i h going_on = keeps_store s k place p h
-  keeps_act s k (unary op line) p i h going_on = keeps_outcome s k _ line (unary_value op (top s.operands)) p h
-  keeps_act s k (step_by op line) p i h going_on = keeps_outcome s k _ line (step_value op (top s.operands)) p h
-  keeps_act s k (binary op line) p i h going_on = keeps_outcome s k _ line (binary_value op (top (below s.operands)) (top s.operands)) p h
-  keeps_act s k (and_then e) p i h going_on = keeps_if (holds (top s.operands)) _ _ ((tt, (tt, h)), p.1) (h, p.1)
-  keeps_act s k (or_else e) p i h going_on = keeps_if (holds (top s.operands)) _ _ (h, p.1) ((tt, (tt, h)), p.1)
-  keeps_act s k to_truth p i h going_on = (h, p.1)
-  keeps_act s k (choose a b) p i h going_on = ((tt, h), p.1)
-  keeps_act s k (enter number line) p i h going_on = keeps_if (nat_lt (length s.outer + 1) 256) _ _ (λ answer. ((tt, tt), (h, p.1))) (λ answer. p)
-  keeps_act s k discard p i h going_on = (h, p.1)
-  keeps_act s k (execute statement) p i h going_on = keeps_execution s k statement p h going_on
-  keeps_act s k (run statements) p i h going_on = keeps_statements s k statements p h
-  keeps_act s k (declare variables) p i h going_on = keeps_declaration s k variables p h
-  keeps_act s k (branch body other) p i h going_on = (plain_branching k (cond (holds (top s.operands)) (Some body) other) h, p.1)
-  keeps_act s k (round loop) p i h going_on = (plain_testing k loop loop.test h, p.1)
-  keeps_act s k (decide loop) p i h going_on = (plain_if (holds (top s.operands)) _ k (tt, (tt, h)) h, p.1)
-  keeps_act s k (third_part loop) p i h going_on = (plain_stepping (jump_back loop ∷ k) loop.step (tt, h), p.1)
-  keeps_act s k (jump_back loop) p i h going_on = λ answer. ((tt, h), p.1)
-  keeps_act s k leave p i h going_on = keeps_returns s (top s.operands) s.outer p p.1
-  keeps_act s k (ask lock mode) p i h going_on = keeps_ask s k lock mode p h going_on
-  keeps_act s k (take_lock lock mode) p i h going_on = absurd i
-  keeps_act s k (give lock) p i h going_on = keeps_lock s lock _ p (λ l line rest answer. (h, p.1))
-  keeps_act s k (cross bar) p i h going_on = absurd i
-  keeps_act s k (gather parts) p i h going_on = keeps_gathering s k parts p h
-  keeps_act s k (print parts) p i h going_on = λ answer. (h, p.1)
+  keeps_act : (s : State) (item : Item) → IsPlainState s → IsPlain item → s.life ≡ going → Keeps (act functions s item)
+  keeps_act s (evaluate e) p i going_on = keeps_evaluation s e p
+  keeps_act s (evaluate_all arguments) p i going_on = keeps_all s arguments p
+  keeps_act s (test_index array line) p i going_on = keeps_member s array line (top s.operands) _ p (λ number. p)
+  keeps_act s (load place way) p i going_on = keeps_load s way place p
+  keeps_act s (store place) p i going_on = keeps_store s place p
+  keeps_act s (unary op line) p i going_on = keeps_outcome s _ line (unary_value op (top s.operands)) p
+  keeps_act s (step_by op line) p i going_on = keeps_outcome s _ line (step_value op (top s.operands)) p
+  keeps_act s (binary op line) p i going_on = keeps_outcome s _ line (binary_value op (top (below s.operands)) (top s.operands)) p
+  keeps_act s (and_then e) p i going_on = keeps_if (holds (top s.operands)) _ _ ((tt, (tt, p.0)), p.1) p
+  keeps_act s (or_else e) p i going_on = keeps_if (holds (top s.operands)) _ _ p ((tt, (tt, p.0)), p.1)
+  keeps_act s to_truth p i going_on = p
+  keeps_act s (choose a b) p i going_on = ((tt, p.0), p.1)
+  keeps_act s (enter number line) p i going_on = keeps_if (nat_lt (length s.outer + 1) 256) _ _ (λ answer. ((tt, tt), p)) (λ answer. p)
+  keeps_act s discard p i going_on = p
+  keeps_act s (execute statement) p i going_on = keeps_execution s statement p going_on
+  keeps_act s (run statements) p i going_on = keeps_statements s statements p
+  keeps_act s (declare variables) p i going_on = keeps_declaration s variables p
+  keeps_act s (branch body other) p i going_on = (plain_branching s.todo (cond (holds (top s.operands)) (Some body) other) p.0, p.1)
+  keeps_act s (round loop) p i going_on = (plain_testing s.todo loop loop.test p.0, p.1)
+  keeps_act s (decide loop) p i going_on = (plain_if (holds (top s.operands)) _ s.todo (tt, (tt, p.0)) p.0, p.1)
+  keeps_act s (third_part loop) p i going_on = (plain_stepping (jump_back loop ∷ s.todo) loop.step (tt, p.0), p.1)
+  keeps_act s (jump_back loop) p i going_on = λ answer. ((tt, p.0), p.1)
+  keeps_act s leave p i going_on = keeps_returns s (top s.operands) s.outer p p.1
+  keeps_act s (ask lock mode) p i going_on = keeps_ask s lock mode p going_on
+  keeps_act s (take_lock lock mode) p i going_on = absurd i
+  keeps_act s (give lock) p i going_on = keeps_lock s lock _ p (λ l line rest answer. p)
+  keeps_act s (cross bar) p i going_on = absurd i
+  keeps_act s (gather parts) p i going_on = keeps_gathering s parts p
+  keeps_act s (print parts) p i going_on = λ answer. p
 
   keeps_first : (s : State) (todo : List Item) → IsPlainState s → ArePlain todo → s.life ≡ going → Keeps (act_first functions s todo)
   keeps_first s [] p h going_on = keeps_returns s (pos 0) s.outer p p.1
-  keeps_first s (item ∷ k) p h going_on = keeps_act s k item p h.0 h.1 going_on
+  keeps_first s (item ∷ k) p h going_on = keeps_act (record s { todo = k }) item (h.1, p.1) h.0 going_on
 
   keeps_in : (s : State) (life : Life) → s.life ≡ life → IsPlainState s → Keeps (step_in functions s life)
   keeps_in s going is p = keeps_first s s.todo p p.0 is

@@ -15,21 +15,21 @@ use Rattle.dsm_check.specs.SemanticsSteps.{Move, goes, asks, settled, want_of, n
 use Rattle.dsm_check.specs.SemanticsItems.{Place, slot, cell, member, LockPlace, one_lock, lock_member, Use, for_value, for_change, for_step_behind, Loop, Item, evaluate, evaluate_all, test_index, load, store, unary, step_by, binary, and_then, or_else, to_truth, choose, enter, discard, execute, run, declare, branch, round, decide, third_part, jump_back, leave, ask, take_lock, give, cross, gather, print, Frame, Life, going, ended, stopped, State, top, below, over}
 use Rattle.dsm_check.specs.SemanticsWeights.{weight}
 
--- How steps go.
+-- How steps go. In what follows `s` is the state behind the item that is done.
 
 abbrev pub does : State → List Item → Move State
 does s todo = goes (record s { todo = todo })
 
 -- leaves a value above the operands that are left
-abbrev pub leaves : State → List Item → List ℤ → ℤ → Move State
-leaves s k rest value = goes (record s { todo = k; operands = value ∷ rest })
+abbrev pub leaves : State → List ℤ → ℤ → Move State
+leaves s rest value = goes (record s { operands = value ∷ rest })
 
 abbrev pub faults : State → Fault → ℕ → Move State
 faults s fault line = asks (Want.Stop fault line) (λ answer. s)
 
-abbrev pub comes_to : State → List Item → List ℤ → ℕ → Outcome → Move State
-comes_to s k rest line (Ok value) = leaves s k rest value
-comes_to s k rest line (Err fault) = faults s fault line
+abbrev pub comes_to : State → List ℤ → ℕ → Outcome → Move State
+comes_to s rest line (Ok value) = leaves s rest value
+comes_to s rest line (Err fault) = faults s fault line
 
 -- goes on with the number of an array's member, where the index is one of the array's
 abbrev pub at_member : State → Array → ℕ → ℤ → (ℕ → Move State) → Move State
@@ -60,21 +60,21 @@ abbrev pub loads : State → Sharing → ℕ → ℕ → (ℤ → State) → Mov
 loads s Sharing.Shared number line after = asks (Want.Load (record { 0 = number }) line) after
 loads s Sharing.Private number line after = goes (after (get_or s.own number (pos 0)))
 
-abbrev pub load_at : State → List Item → Use → Place → Move State
-load_at s k way (slot number) = goes (record s { todo = k; operands = loaded way [] s.operands (get_or s.slots number (pos 0)) })
-load_at s k way (cell sharing number line) = loads s sharing number line (λ v. record s { todo = k; operands = loaded way [] s.operands v })
-load_at s k way (member sharing array line) = at_member s array line (top s.operands) (λ number.
-    loads s sharing number line (λ v. record s { todo = k; operands = loaded way (top s.operands ∷ []) (below s.operands) v }))
+abbrev pub load_at : State → Use → Place → Move State
+load_at s way (slot number) = goes (record s { operands = loaded way [] s.operands (get_or s.slots number (pos 0)) })
+load_at s way (cell sharing number line) = loads s sharing number line (λ v. record s { operands = loaded way [] s.operands v })
+load_at s way (member sharing array line) = at_member s array line (top s.operands) (λ number.
+    loads s sharing number line (λ v. record s { operands = loaded way (top s.operands ∷ []) (below s.operands) v }))
 
 abbrev pub stores : Sharing → ℕ → ℕ → ℤ → State → Move State
 stores Sharing.Shared number line value after = asks (Want.Store (record { 0 = number }) value line) (λ answer. after)
 stores Sharing.Private number line value after = goes (record after { own = set after.own number value })
 
-abbrev pub store_at : State → List Item → Place → Move State
-store_at s k (slot number) = goes (record s { todo = k; slots = set s.slots number (top s.operands) })
-store_at s k (cell sharing number line) = stores sharing number line (top s.operands) (record s { todo = k })
-store_at s k (member sharing array line) = at_member s array line (top (below s.operands)) (λ number.
-    stores sharing number line (top s.operands) (record s { todo = k; operands = top s.operands ∷ below (below s.operands) }))
+abbrev pub store_at : State → Place → Move State
+store_at s (slot number) = goes (record s { slots = set s.slots number (top s.operands) })
+store_at s (cell sharing number line) = stores sharing number line (top s.operands) s
+store_at s (member sharing array line) = at_member s array line (top (below s.operands)) (λ number.
+    stores sharing number line (top s.operands) (record s { operands = top s.operands ∷ below (below s.operands) }))
 
 -- Expressions.
 
@@ -89,22 +89,22 @@ abbrev pub assigning : Option BinaryOp → ℕ → Place → r.Expression → Li
 assigning None line place e k = evaluate e ∷ store place ∷ k
 assigning (Some op) line place e k = load place for_change ∷ evaluate e ∷ binary op line ∷ store place ∷ k
 
-abbrev pub evaluation : State → List Item → r.Expression → Move State
-evaluation s k (r.number n) = leaves s k s.operands n
-evaluation s k (r.load location) = does s (reaching location (load (place_of location) for_value ∷ k))
-evaluation s k (r.call function arguments line) = does s (evaluate_all arguments ∷ enter function line ∷ k)
-evaluation s k (r.unary op line e) = does s (evaluate e ∷ unary op line ∷ k)
-evaluation s k (r.prefix op line location) =
-    does s (reaching location (load (place_of location) for_change ∷ step_by op line ∷ store (place_of location) ∷ k))
-evaluation s k (r.postfix location op line) =
-    does s (reaching location (load (place_of location) for_step_behind ∷ step_by op line ∷ store (place_of location) ∷ discard ∷ k))
-evaluation s k (r.binary a op line b) = does s (evaluate a ∷ second op line b k)
-evaluation s k (r.choice test a b) = does s (evaluate test ∷ choose a b ∷ k)
-evaluation s k (r.assign location op line e) = does s (reaching location (assigning (operator_of op) line (place_of location) e k))
+abbrev pub evaluation : State → r.Expression → Move State
+evaluation s (r.number n) = leaves s s.operands n
+evaluation s (r.load location) = does s (reaching location (load (place_of location) for_value ∷ s.todo))
+evaluation s (r.call function arguments line) = does s (evaluate_all arguments ∷ enter function line ∷ s.todo)
+evaluation s (r.unary op line e) = does s (evaluate e ∷ unary op line ∷ s.todo)
+evaluation s (r.prefix op line location) =
+    does s (reaching location (load (place_of location) for_change ∷ step_by op line ∷ store (place_of location) ∷ s.todo))
+evaluation s (r.postfix location op line) =
+    does s (reaching location (load (place_of location) for_step_behind ∷ step_by op line ∷ store (place_of location) ∷ discard ∷ s.todo))
+evaluation s (r.binary a op line b) = does s (evaluate a ∷ second op line b s.todo)
+evaluation s (r.choice test a b) = does s (evaluate test ∷ choose a b ∷ s.todo)
+evaluation s (r.assign location op line e) = does s (reaching location (assigning (operator_of op) line (place_of location) e s.todo))
 
-abbrev pub evaluation_of_all : State → List Item → r.Expressions → Move State
-evaluation_of_all s k r.nil = does s k
-evaluation_of_all s k (r.cons e rest) = does s (evaluate e ∷ evaluate_all rest ∷ k)
+abbrev pub evaluation_of_all : State → r.Expressions → Move State
+evaluation_of_all s r.nil = goes s
+evaluation_of_all s (r.cons e rest) = does s (evaluate e ∷ evaluate_all rest ∷ s.todo)
 
 -- Calls.
 
@@ -122,17 +122,17 @@ abbrev pub new_slots : r.Function → List ℤ → List ℤ
 new_slots function arguments = arguments ++ replicate (function.slots - length arguments) (pos 0)
 
 -- the function is entered; its last argument is on top
-abbrev pub entered : State → List Item → r.Function → State
-entered s k function = record s {
+abbrev pub entered : State → r.Function → State
+entered s function = record s {
   todo = run function.body ∷ [];
   operands = [];
   slots = new_slots function (reverse (take function.params s.operands));
-  outer = record { todo = k; operands = drop function.params s.operands; slots = s.slots } ∷ s.outer;
+  outer = record { todo = s.todo; operands = drop function.params s.operands; slots = s.slots } ∷ s.outer;
 }
 
-abbrev pub entering : State → List Item → ℕ → r.Function → Move State
-entering s k line function =
-    if nat_lt (length s.outer + 1) most_depth then asks Want.Quiet (λ answer. entered s k function) else faults s Fault.Depth line
+abbrev pub entering : State → ℕ → r.Function → Move State
+entering s line function =
+    if nat_lt (length s.outer + 1) most_depth then asks Want.Quiet (λ answer. entered s function) else faults s Fault.Depth line
 
 -- the innermost function returns with a value; that of main isn't used
 abbrev pub returns : State → ℤ → List Frame → Move State
@@ -147,13 +147,13 @@ returns s value (caller ∷ outer) = asks Want.Quiet (λ answer. record s {
 -- Statements.
 
 -- a variable that is declared without a value is set to 0
-abbrev pub declaring : State → List Item → ℕ → Option r.Expression → Move State
-declaring s k number None = goes (record s { todo = k; slots = set s.slots number (pos 0) })
-declaring s k number (Some e) = does s (evaluate e ∷ store (slot number) ∷ discard ∷ k)
+abbrev pub declaring : State → ℕ → Option r.Expression → Move State
+declaring s number None = goes (record s { slots = set s.slots number (pos 0) })
+declaring s number (Some e) = does s (evaluate e ∷ store (slot number) ∷ discard ∷ s.todo)
 
-abbrev pub declaration : State → List Item → List r.Variable → Move State
-declaration s k [] = does s k
-declaration s k (variable ∷ rest) = declaring s (declare rest ∷ k) variable.slot variable.initial
+abbrev pub declaration : State → List r.Variable → Move State
+declaration s [] = goes s
+declaration s (variable ∷ rest) = declaring (record s { todo = declare rest ∷ s.todo }) variable.slot variable.initial
 
 abbrev pub branching : List Item → Option r.Statement → List Item
 branching k None = k
@@ -198,10 +198,10 @@ abbrev pub at_lock : State → LockPlace → (Lock → ℕ → List ℤ → Move
 at_lock s (one_lock lock line) go = go lock line s.operands
 at_lock s (lock_member array line) go = at_member s array line (top s.operands) (λ number. go (record { 0 = number }) line (below s.operands))
 
-abbrev pub gathering : State → List Item → List r.Part → Move State
-gathering s k [] = does s k
-gathering s k (r.part_text text ∷ rest) = does s (gather rest ∷ k)
-gathering s k (r.part_value e ∷ rest) = does s (evaluate e ∷ gather rest ∷ k)
+abbrev pub gathering : State → List r.Part → Move State
+gathering s [] = goes s
+gathering s (r.part_text text ∷ rest) = does s (gather rest ∷ s.todo)
+gathering s (r.part_value e ∷ rest) = does s (evaluate e ∷ gather rest ∷ s.todo)
 
 abbrev pub values_in : List r.Part → ℕ
 values_in [] = 0
@@ -214,71 +214,71 @@ parts_text [] values = []
 parts_text (r.part_text text ∷ rest) values = text ++ parts_text rest values
 parts_text (r.part_value e ∷ rest) values = signed_decimal (top values) ++ parts_text rest (below values)
 
-abbrev pub execution : State → List Item → r.Statement → Move State
-execution s k (r.block body) = does s (run body ∷ k)
-execution s k r.empty = does s k
-execution s k (r.variables variables) = does s (declare variables ∷ k)
-execution s k (r.expression e) = does s (evaluate e ∷ discard ∷ k)
-execution s k (r.when test body) = does s (evaluate test ∷ branch body None ∷ k)
-execution s k (r.either test body other) = does s (evaluate test ∷ branch body (Some other) ∷ k)
-execution s k (r.while test body) = does s (round (record { test = Some test; step = None; body = body }) ∷ k)
-execution s k (r.for start test step body) = does s (starting start (round (record { test = test; step = step; body = body }) ∷ k))
-execution s k r.break = does s (after_loop k)
-execution s k r.continue = does s (after_body k)
-execution s k (r.return None) = leaves s (leave ∷ k) s.operands (pos 0)
-execution s k (r.return (Some e)) = does s (evaluate e ∷ leave ∷ k)
-execution s k (r.acquire lock mode) = does s (reaching_lock lock (ask (lock_place_of lock) mode ∷ k))
-execution s k (r.release lock) = does s (reaching_lock lock (give (lock_place_of lock) ∷ k))
-execution s k (r.barrier bar) = asks (Want.Arrive bar) (λ answer. record s { todo = cross bar ∷ k })
-execution s k (r.print parts) = does s (gather parts ∷ print parts ∷ k)
+abbrev pub execution : State → r.Statement → Move State
+execution s (r.block body) = does s (run body ∷ s.todo)
+execution s r.empty = goes s
+execution s (r.variables variables) = does s (declare variables ∷ s.todo)
+execution s (r.expression e) = does s (evaluate e ∷ discard ∷ s.todo)
+execution s (r.when test body) = does s (evaluate test ∷ branch body None ∷ s.todo)
+execution s (r.either test body other) = does s (evaluate test ∷ branch body (Some other) ∷ s.todo)
+execution s (r.while test body) = does s (round (record { test = Some test; step = None; body = body }) ∷ s.todo)
+execution s (r.for start test step body) = does s (starting start (round (record { test = test; step = step; body = body }) ∷ s.todo))
+execution s r.break = does s (after_loop s.todo)
+execution s r.continue = does s (after_body s.todo)
+execution s (r.return None) = goes (record s { todo = leave ∷ s.todo; operands = pos 0 ∷ s.operands })
+execution s (r.return (Some e)) = does s (evaluate e ∷ leave ∷ s.todo)
+execution s (r.acquire lock mode) = does s (reaching_lock lock (ask (lock_place_of lock) mode ∷ s.todo))
+execution s (r.release lock) = does s (reaching_lock lock (give (lock_place_of lock) ∷ s.todo))
+execution s (r.barrier bar) = asks (Want.Arrive bar) (λ answer. record s { todo = cross bar ∷ s.todo })
+execution s (r.print parts) = does s (gather parts ∷ print parts ∷ s.todo)
 
-abbrev pub execution_of_all : State → List Item → r.Statements → Move State
-execution_of_all s k r.none = does s k
-execution_of_all s k (r.then statement rest) = does s (execute statement ∷ run rest ∷ k)
+abbrev pub execution_of_all : State → r.Statements → Move State
+execution_of_all s r.none = goes s
+execution_of_all s (r.then statement rest) = does s (execute statement ∷ run rest ∷ s.todo)
 
 -- Steps.
 
-abbrev pub act : List r.Function → State → List Item → Item → Move State
-act functions s k (evaluate e) = evaluation s k e
-act functions s k (evaluate_all arguments) = evaluation_of_all s k arguments
-act functions s k (test_index array line) = at_member s array line (top s.operands) (λ number. does s k)
-act functions s k (load place way) = load_at s k way place
-act functions s k (store place) = store_at s k place
-act functions s k (unary op line) = comes_to s k (below s.operands) line (unary_value op (top s.operands))
-act functions s k (step_by op line) = comes_to s k (below s.operands) line (step_value op (top s.operands))
-act functions s k (binary op line) = comes_to s k (below (below s.operands)) line (binary_value op (top (below s.operands)) (top s.operands))
-act functions s k (and_then e) =
+abbrev pub act : List r.Function → State → Item → Move State
+act functions s (evaluate e) = evaluation s e
+act functions s (evaluate_all arguments) = evaluation_of_all s arguments
+act functions s (test_index array line) = at_member s array line (top s.operands) (λ number. goes s)
+act functions s (load place way) = load_at s way place
+act functions s (store place) = store_at s place
+act functions s (unary op line) = comes_to s (below s.operands) line (unary_value op (top s.operands))
+act functions s (step_by op line) = comes_to s (below s.operands) line (step_value op (top s.operands))
+act functions s (binary op line) = comes_to s (below (below s.operands)) line (binary_value op (top (below s.operands)) (top s.operands))
+act functions s (and_then e) =
     let rest = below s.operands in
-    if holds (top s.operands) then goes (record s { todo = evaluate e ∷ to_truth ∷ k; operands = rest }) else leaves s k rest (pos 0)
-act functions s k (or_else e) =
+    if holds (top s.operands) then goes (record s { todo = evaluate e ∷ to_truth ∷ s.todo; operands = rest }) else leaves s rest (pos 0)
+act functions s (or_else e) =
     let rest = below s.operands in
-    if holds (top s.operands) then leaves s k rest (pos 1) else goes (record s { todo = evaluate e ∷ to_truth ∷ k; operands = rest })
-act functions s k to_truth = leaves s k (below s.operands) (truth (holds (top s.operands)))
-act functions s k (choose a b) = goes (record s { todo = evaluate (if holds (top s.operands) then a else b) ∷ k; operands = below s.operands })
-act functions s k (enter number line) = entering s k line (numbered (slice_get functions number))
-act functions s k discard = goes (record s { todo = k; operands = below s.operands })
-act functions s k (execute statement) = execution s k statement
-act functions s k (run statements) = execution_of_all s k statements
-act functions s k (declare variables) = declaration s k variables
-act functions s k (branch body other) =
-    goes (record s { todo = branching k (if holds (top s.operands) then Some body else other); operands = below s.operands })
-act functions s k (round loop) = does s (testing k loop loop.test)
-act functions s k (decide loop) =
-    goes (record s { todo = (if holds (top s.operands) then execute loop.body ∷ third_part loop ∷ k else k); operands = below s.operands })
-act functions s k (third_part loop) = does s (stepping (jump_back loop ∷ k) loop.step)
-act functions s k (jump_back loop) = asks Want.Quiet (λ answer. record s { todo = round loop ∷ k })
-act functions s k leave = returns s (top s.operands) s.outer
-act functions s k (ask lock mode) = at_lock s lock (λ l line rest. asks (Want.Ask l mode line) (λ answer. record s { todo = take_lock lock mode ∷ k }))
-act functions s k (take_lock lock mode) = at_lock s lock (λ l line rest. asks (Want.Take l mode) (λ answer. record s { todo = k; operands = rest }))
-act functions s k (give lock) = at_lock s lock (λ l line rest. asks (Want.Give l line) (λ answer. record s { todo = k; operands = rest }))
-act functions s k (cross bar) = asks (Want.Cross bar) (λ answer. record s { todo = k })
-act functions s k (gather parts) = gathering s k parts
-act functions s k (print parts) = asks Want.Line (λ answer. record s { todo = k; operands = drop (values_in parts) s.operands })
+    if holds (top s.operands) then leaves s rest (pos 1) else goes (record s { todo = evaluate e ∷ to_truth ∷ s.todo; operands = rest })
+act functions s to_truth = leaves s (below s.operands) (truth (holds (top s.operands)))
+act functions s (choose a b) = goes (record s { todo = evaluate (if holds (top s.operands) then a else b) ∷ s.todo; operands = below s.operands })
+act functions s (enter number line) = entering s line (numbered (slice_get functions number))
+act functions s discard = goes (record s { operands = below s.operands })
+act functions s (execute statement) = execution s statement
+act functions s (run statements) = execution_of_all s statements
+act functions s (declare variables) = declaration s variables
+act functions s (branch body other) =
+    goes (record s { todo = branching s.todo (if holds (top s.operands) then Some body else other); operands = below s.operands })
+act functions s (round loop) = does s (testing s.todo loop loop.test)
+act functions s (decide loop) =
+    goes (record s { todo = (if holds (top s.operands) then execute loop.body ∷ third_part loop ∷ s.todo else s.todo); operands = below s.operands })
+act functions s (third_part loop) = does s (stepping (jump_back loop ∷ s.todo) loop.step)
+act functions s (jump_back loop) = asks Want.Quiet (λ answer. record s { todo = round loop ∷ s.todo })
+act functions s leave = returns s (top s.operands) s.outer
+act functions s (ask lock mode) = at_lock s lock (λ l line rest. asks (Want.Ask l mode line) (λ answer. record s { todo = take_lock lock mode ∷ s.todo }))
+act functions s (take_lock lock mode) = at_lock s lock (λ l line rest. asks (Want.Take l mode) (λ answer. record s { operands = rest }))
+act functions s (give lock) = at_lock s lock (λ l line rest. asks (Want.Give l line) (λ answer. record s { operands = rest }))
+act functions s (cross bar) = asks (Want.Cross bar) (λ answer. s)
+act functions s (gather parts) = gathering s parts
+act functions s (print parts) = asks Want.Line (λ answer. record s { operands = drop (values_in parts) s.operands })
 
 -- a function that ends without a value gives 0
 abbrev pub act_first : List r.Function → State → List Item → Move State
 act_first functions s [] = returns s (pos 0) s.outer
-act_first functions s (item ∷ k) = act functions s k item
+act_first functions s (item ∷ k) = act functions (record s { todo = k }) item
 
 abbrev pub step_in : List r.Function → State → Life → Move State
 step_in functions s going = act_first functions s s.todo
