@@ -9,7 +9,7 @@ use Rattle.dsm_check.specs.SemanticsValues.{Outcome, holds, unary_value, step_va
 use Rattle.dsm_check.specs.SemanticsSteps.{Move, goes, asks}
 use Rattle.dsm_check.specs.SemanticsItems.{Place, slot, cell, member, LockPlace, one_lock, lock_member, Use, Loop, Item, evaluate, evaluate_all, test_index, load, store, unary, step_by, binary, and_then, or_else, to_truth, choose, enter, discard, execute, run, declare, branch, round, decide, third_part, jump_back, leave, ask, take_lock, give, cross, gather, print, Frame, Life, going, ended, stopped, State, top, below}
 use Rattle.dsm_check.specs.SemanticsWeights.{location_weight, expression_weight, option_weight, start_weight, lock_weight, statement_weight, weight}
-use Rattle.dsm_check.specs.Semantics.{at_member, reaching, place_of, loads, load_at, stores, store_at, comes_to, second, assigning, returns, declaration, declaring, branching, starting, testing, stepping, after_loop, after_body, reaching_lock, lock_place_of, at_lock, gathering, evaluation, evaluation_of_all, execution, execution_of_all, act, act_first, step_in, step}
+use Rattle.dsm_check.specs.Semantics.{member_number, at_member, reaching, place_of, loads, load_at, stores, store_at, comes_to, second, assigning, returns, declaration, declaring, branching, starting, testing, stepping, after_loop, after_body, reaching_lock, lock_place_of, at_lock, gathering, evaluation, evaluation_of_all, execution, execution_of_all, act, act_first, step_in, step}
 use Rattle.dsm_check.proofs.StepsSettle.{Falls}
 
 abbrev pub weight_at : State → ℕ
@@ -22,10 +22,9 @@ less_if : (n : ℕ) (test : Bool) (a b : Move State) → Less n a → Less n b �
 less_if n true a b p q = p
 less_if n false a b p q = q
 
-less_member : (n : ℕ) (s : State) (array : Array) (line : ℕ) (index : ℤ) (go : ℕ → Move State) → ((number : ℕ) → Less n (go number))
-    → Less n (at_member s array line index go)
-less_member n s array line (pos i) go h = less_if n (nat_lt i array.size) _ _ (h (array.first + i)) tt
-less_member n s array line (negsuc i) go h = tt
+less_member : (n : ℕ) (s : State) (line : ℕ) (found : Option ℕ) (go : ℕ → Move State) → ((number : ℕ) → Less n (go number)) → Less n (at_member s line found go)
+less_member n s line None go h = tt
+less_member n s line (Some number) go h = h number
 
 less_loads : (n : ℕ) (s : State) (sharing : Sharing) (number line : ℕ) (after : ℤ → State) → ((v : ℤ) → weight (after v).todo < n)
     → Less n (loads s sharing number line after)
@@ -86,18 +85,18 @@ after_body_weight (item ∷ k) = omega (arith, after_body_weight k)
 less_load : (n : ℕ) (s : State) (way : Use) (place : Place) → weight s.todo < n → Less n (load_at s way place)
 less_load n s way (slot number) h = h
 less_load n s way (cell sharing number line) h = less_loads n s sharing number line _ (λ v. h)
-less_load n s way (member sharing array line) h = less_member n s array line (top s.operands) _ (λ number. less_loads n s sharing number line _ (λ v. h))
+less_load n s way (member sharing array line) h = less_member n s line (member_number array (top s.operands)) _ (λ number. less_loads n s sharing number line _ (λ v. h))
 
 less_store : (n : ℕ) (s : State) (place : Place) → weight s.todo < n → Less n (store_at s place)
 less_store n s (slot number) h = h
 less_store n s (cell sharing number line) h = less_stores n sharing number line _ _ h
 less_store n s (member sharing array line) h =
-    less_member n s array line (top (below s.operands)) _ (λ number. less_stores n sharing number line _ _ h)
+    less_member n s line (member_number array (top (below s.operands))) _ (λ number. less_stores n sharing number line _ _ h)
 
 less_lock : (n : ℕ) (s : State) (lock : LockPlace) (go : Lock → ℕ → List ℤ → Move State) → ((l : Lock) (line : ℕ) (rest : List ℤ) → Less n (go l line rest))
     → Less n (at_lock s lock go)
 less_lock n s (one_lock lock line) go h = h _ _ _
-less_lock n s (lock_member array line) go h = less_member n s array line (top s.operands) _ (λ number. h _ _ _)
+less_lock n s (lock_member array line) go h = less_member n s line (member_number array (top s.operands)) _ (λ number. h _ _ _)
 
 evaluation_falls : (s : State) (e : r.Expression) → Less (weight (evaluate e ∷ s.todo)) (evaluation s e)
 evaluation_falls s (r.number n) = omega arith
@@ -178,7 +177,7 @@ less_return n s value (caller ∷ outer) = tt
 act_falls : (functions : List r.Function) (s : State) (item : Item) → Less (weight (item ∷ s.todo)) (act functions s item)
 act_falls functions s (evaluate e) = evaluation_falls s e
 act_falls functions s (evaluate_all arguments) = all_falls s arguments
-act_falls functions s (test_index array line) = less_member _ s array line (top s.operands) _ (λ number. omega arith)
+act_falls functions s (test_index array line) = less_member _ s line (member_number array (top s.operands)) _ (λ number. omega arith)
 act_falls functions s (load place way) = less_load _ s way place (omega arith)
 act_falls functions s (store place) = less_store _ s place (omega arith)
 act_falls functions s (unary op line) = less_outcome _ s (below s.operands) line (unary_value op (top s.operands)) (omega arith)

@@ -15,65 +15,19 @@ use Rattle.dsm_check.specs.Resolved as r
 use Rattle.dsm_check.specs.SemanticsValues.{Outcome, holds, unary_value, step_value, binary_value, operator_of}
 use Rattle.dsm_check.specs.SemanticsSteps.{Move, goes, asks, want_of, next_of}
 use Rattle.dsm_check.specs.SemanticsItems.{Place, slot, cell, member, LockPlace, one_lock, lock_member, Use, Loop, Item, evaluate, evaluate_all, test_index, load, store, unary, step_by, binary, and_then, or_else, to_truth, choose, enter, discard, execute, run, declare, branch, round, decide, third_part, jump_back, leave, ask, take_lock, give, cross, gather, print, Frame, Life, going, ended, stopped, State, top, below}
-use Rattle.dsm_check.specs.SemanticsWithin.{Extent, extent_of, IsArrayBelow, IsCellWithin, IsArrayWithin, IsLocationWithin, IsWithin, AreWithin, IsOptionWithin, AreVariablesWithin, ArePartsWithin, IsStartWithin, IsLockWithin, IsStatementWithin, AreStatementsWithin, AreFunctionsWithin}
-use Rattle.dsm_check.specs.Semantics.{numbered, entered, faults, at_member, reaching, place_of, loads, load_at, stores, store_at, comes_to, second, assigning, entering, returns, declaration, declaring, branching, starting, testing, stepping, after_loop, after_body, reaching_lock, lock_place_of, at_lock, gathering, evaluation, evaluation_of_all, execution, execution_of_all, act, act_first, step_in, step, ready, completed, program_semantics, first_state}
+use Rattle.dsm_check.specs.SemanticsWithin.{Extent, extent_of, IsArrayBelow, IsCellWithin, IsArrayWithin, IsLocationWithin, IsWithin, AreWithin, IsOptionWithin, AreVariablesWithin, ArePartsWithin, IsStartWithin, IsLockWithin, IsStatementWithin, AreStatementsWithin, AreFunctionsWithin, NamesWithin, IsPlaceWithin, IsLockPlaceWithin, IsOtherWithin, IsLoopWithin, IsItemWithin, AreItemsWithin, AreFramesWithin, IsStateWithin}
+use Rattle.dsm_check.specs.Semantics.{numbered, entered, faults, member_number, at_member, reaching, place_of, loads, load_at, stores, store_at, comes_to, second, assigning, entering, returns, declaration, declaring, branching, starting, testing, stepping, after_loop, after_body, reaching_lock, lock_place_of, at_lock, gathering, evaluation, evaluation_of_all, execution, execution_of_all, act, act_first, step_in, step, ready, completed, program_semantics, first_state}
 use Rattle.dsm_check.proofs.StepsSettle.{settled_keeps}
 use Rattle.dsm_check.proofs.SemanticsFalls.{weight_at, step_falls}
 
--- What remains to be done names only what there is.
+if_found : (test : Bool) (number found : ℕ) → cond test (Some number) None ≡ Some found → (test ≡ true) × (number ≡ found)
+if_found true number found is = (refl, cc (is))
+if_found false number found is = cc (is)
 
-abbrev pub IsPlaceWithin : Extent → Place → Type 0
-IsPlaceWithin extent (slot number) = Unit {0}
-IsPlaceWithin extent (cell sharing number line) = IsCellWithin extent sharing number
-IsPlaceWithin extent (member sharing array line) = IsArrayWithin extent sharing array
-
-abbrev pub IsLockPlaceWithin : Extent → LockPlace → Type 0
-IsLockPlaceWithin extent (one_lock lock line) = lock.0 < extent.locks
-IsLockPlaceWithin extent (lock_member array line) = IsArrayBelow extent.locks array
-
-abbrev pub IsOtherWithin : Extent → Option r.Statement → Type 0
-IsOtherWithin extent None = Unit {0}
-IsOtherWithin extent (Some other) = IsStatementWithin extent other
-
-abbrev pub IsLoopWithin : Extent → Loop → Type 0
-IsLoopWithin extent loop = IsOptionWithin extent loop.test × IsOptionWithin extent loop.step × IsStatementWithin extent loop.body
-
-abbrev pub IsItemWithin : Extent → Item → Type 0
-IsItemWithin extent (evaluate e) = IsWithin extent e
-IsItemWithin extent (evaluate_all arguments) = AreWithin extent arguments
-IsItemWithin extent (load place way) = IsPlaceWithin extent place
-IsItemWithin extent (store place) = IsPlaceWithin extent place
-IsItemWithin extent (and_then e) = IsWithin extent e
-IsItemWithin extent (or_else e) = IsWithin extent e
-IsItemWithin extent (choose a b) = IsWithin extent a × IsWithin extent b
-IsItemWithin extent (execute statement) = IsStatementWithin extent statement
-IsItemWithin extent (run statements) = AreStatementsWithin extent statements
-IsItemWithin extent (declare variables) = AreVariablesWithin extent variables
-IsItemWithin extent (branch body other) = IsStatementWithin extent body × IsOtherWithin extent other
-IsItemWithin extent (round loop) = IsLoopWithin extent loop
-IsItemWithin extent (decide loop) = IsLoopWithin extent loop
-IsItemWithin extent (third_part loop) = IsLoopWithin extent loop
-IsItemWithin extent (jump_back loop) = IsLoopWithin extent loop
-IsItemWithin extent (ask lock mode) = IsLockPlaceWithin extent lock
-IsItemWithin extent (take_lock lock mode) = IsLockPlaceWithin extent lock
-IsItemWithin extent (give lock) = IsLockPlaceWithin extent lock
-IsItemWithin extent (cross bar) = bar.0 < extent.bars
-IsItemWithin extent (gather parts) = ArePartsWithin extent parts
-IsItemWithin extent _ = Unit {0}
-
-abbrev pub AreItemsWithin : Extent → List Item → Type 0
-AreItemsWithin extent [] = Unit {0}
-AreItemsWithin extent (item ∷ k) = IsItemWithin extent item × AreItemsWithin extent k
-
-abbrev pub AreFramesWithin : Extent → List Frame → Type 0
-AreFramesWithin extent [] = Unit {0}
-AreFramesWithin extent (frame ∷ outer) = AreItemsWithin extent frame.todo × AreFramesWithin extent outer
-
-abbrev pub IsStateWithin : Extent → State → Type 0
-IsStateWithin extent s = AreItemsWithin extent s.todo × AreFramesWithin extent s.outer
-
-member_below : (bound : ℕ) (array : Array) (i : ℕ) → IsArrayBelow bound array → nat_lt i array.size ≡ true → array.first + i < bound
-member_below bound array i within test = omega (arith, ltb-true i array.size test)
+member_below : (bound : ℕ) (array : Array) (index : ℤ) (number : ℕ) → IsArrayBelow bound array → member_number array index ≡ Some number → number < bound
+member_below bound array (pos i) number within is =
+    let found = if_found (nat_lt i array.size) (array.first + i) number is in omega (arith, ltb-true i array.size found.0, found.1)
+member_below bound array (negsuc i) number within is = cc (is)
 
 body_within : (extent : Extent) (functions : List r.Function) (number : ℕ) → AreFunctionsWithin extent functions
     → AreStatementsWithin extent (numbered (slice_get functions number)).body
@@ -81,14 +35,11 @@ body_within extent [] number within = tt
 body_within extent (function ∷ rest) zero within = within.0
 body_within extent (function ∷ rest) (suc number) within = body_within extent rest number within.1
 
-module _ (setup : Setup) (functions : List r.Function) (all : AreFunctionsWithin (extent_of setup) functions) where
-  abbrev extent : Extent
-  extent = extent_of setup
-
+module _ (extent : Extent) (functions : List r.Function) (all : AreFunctionsWithin extent functions) where
   -- what a step wants, and what it leaves
   abbrev pub KeepsWithin : Move State → Type 0
   KeepsWithin (goes t) = IsStateWithin extent t
-  KeepsWithin (asks want after) = Names setup want × ((answer : ℤ) → IsStateWithin extent (after answer))
+  KeepsWithin (asks want after) = NamesWithin extent want × ((answer : ℤ) → IsStateWithin extent (after answer))
 
   within_if : (test : Bool) (a b : Move State) → (test ≡ true → KeepsWithin a) → KeepsWithin b → KeepsWithin (cond test a b)
   within_if true a b p q = p refl
@@ -97,10 +48,10 @@ module _ (setup : Setup) (functions : List r.Function) (all : AreFunctionsWithin
   within_fault : (s : State) (fault : Fault) (line : ℕ) → IsStateWithin extent s → KeepsWithin (faults s fault line)
   within_fault s fault line p = (tt, λ answer. p)
 
-  within_member : (s : State) (array : Array) (line : ℕ) (index : ℤ) (go : ℕ → Move State) → IsStateWithin extent s
-      → ((i : ℕ) → nat_lt i array.size ≡ true → KeepsWithin (go (array.first + i))) → KeepsWithin (at_member s array line index go)
-  within_member s array line (pos i) go p h = within_if (nat_lt i array.size) _ _ (λ test. h i test) (within_fault s Fault.Index line p)
-  within_member s array line (negsuc i) go p h = within_fault s Fault.Index line p
+  within_member : (s : State) (line : ℕ) (found : Option ℕ) (go : ℕ → Move State) → IsStateWithin extent s
+      → ((number : ℕ) → found ≡ Some number → KeepsWithin (go number)) → KeepsWithin (at_member s line found go)
+  within_member s line None go p h = within_fault s Fault.Index line p
+  within_member s line (Some number) go p h = h number refl
 
   within_loads : (s : State) (sharing : Sharing) (number line : ℕ) (after : ℤ → State) → IsCellWithin extent sharing number
       → ((v : ℤ) → IsStateWithin extent (after v)) → KeepsWithin (loads s sharing number line after)
@@ -112,10 +63,10 @@ module _ (setup : Setup) (functions : List r.Function) (all : AreFunctionsWithin
   within_stores Sharing.Shared number line value after c h = (c, λ answer. h)
   within_stores Sharing.Private number line value after c h = h
 
-  cell_of_array : (sharing : Sharing) (array : Array) (i : ℕ) → IsArrayWithin extent sharing array → nat_lt i array.size ≡ true
-      → IsCellWithin extent sharing (array.first + i)
-  cell_of_array Sharing.Shared array i within test = member_below setup.cells array i within test
-  cell_of_array Sharing.Private array i within test = tt
+  cell_of_array : (sharing : Sharing) (array : Array) (index : ℤ) (number : ℕ) → IsArrayWithin extent sharing array → member_number array index ≡ Some number
+      → IsCellWithin extent sharing number
+  cell_of_array Sharing.Shared array index number within is = member_below extent.cells array index number within is
+  cell_of_array Sharing.Private array index number within is = tt
 
   within_outcome : (s : State) (rest : List ℤ) (line : ℕ) (outcome : Outcome) → IsStateWithin extent s
       → KeepsWithin (comes_to s rest line outcome)
@@ -193,20 +144,20 @@ module _ (setup : Setup) (functions : List r.Function) (all : AreFunctionsWithin
   within_load s way (slot number) p c = p
   within_load s way (cell sharing number line) p c = within_loads s sharing number line _ c (λ v. p)
   within_load s way (member sharing array line) p c =
-      within_member s array line (top s.operands) _ p (λ i test. within_loads s sharing _ line _ (cell_of_array sharing array i c test) (λ v. p))
+      within_member s line (member_number array (top s.operands)) _ p (λ number is. within_loads s sharing number line _ (cell_of_array sharing array (top s.operands) number c is) (λ v. p))
 
   within_store : (s : State) (place : Place) → IsStateWithin extent s → IsPlaceWithin extent place
       → KeepsWithin (store_at s place)
   within_store s (slot number) p c = p
   within_store s (cell sharing number line) p c = within_stores sharing number line _ _ c p
   within_store s (member sharing array line) p c =
-      within_member s array line (top (below s.operands)) _ p (λ i test. within_stores sharing _ line _ _ (cell_of_array sharing array i c test) p)
+      within_member s line (member_number array (top (below s.operands))) _ p (λ number is. within_stores sharing number line _ _ (cell_of_array sharing array (top (below s.operands)) number c is) p)
 
   within_lock : (s : State) (lock : LockPlace) (go : Lock → ℕ → List ℤ → Move State) → IsStateWithin extent s → IsLockPlaceWithin extent lock
-      → ((l : Lock) (line : ℕ) (rest : List ℤ) → l.0 < setup.locks → KeepsWithin (go l line rest)) → KeepsWithin (at_lock s lock go)
+      → ((l : Lock) (line : ℕ) (rest : List ℤ) → l.0 < extent.locks → KeepsWithin (go l line rest)) → KeepsWithin (at_lock s lock go)
   within_lock s (one_lock lock line) go p c h = h lock line s.operands c
   within_lock s (lock_member array line) go p c h =
-      within_member s array line (top s.operands) _ p (λ i test. h _ line (below s.operands) (member_below setup.locks array i c test))
+      within_member s line (member_number array (top s.operands)) _ p (λ number is. h _ line (below s.operands) (member_below extent.locks array (top s.operands) number c is))
 
   within_evaluation : (s : State) (e : r.Expression) → IsStateWithin extent s → IsWithin extent e → KeepsWithin (evaluation s e)
   within_evaluation s (r.number n) p w = p
@@ -281,7 +232,7 @@ module _ (setup : Setup) (functions : List r.Function) (all : AreFunctionsWithin
       → KeepsWithin (act functions s item)
   within_act s (evaluate e) p w = within_evaluation s e p w
   within_act s (evaluate_all arguments) p w = within_all s arguments p w
-  within_act s (test_index array line) p w = within_member s array line (top s.operands) _ p (λ i test. p)
+  within_act s (test_index array line) p w = within_member s line (member_number array (top s.operands)) _ p (λ number is. p)
   within_act s (load place way) p w = within_load s way place p w
   within_act s (store place) p w = within_store s place p w
   within_act s (unary op line) p w = within_outcome s _ line (unary_value op (top s.operands)) p
@@ -344,23 +295,38 @@ module _ (setup : Setup) (functions : List r.Function) (all : AreFunctionsWithin
   completed_within s (Label.Cross bar epoch) p = next_within s _ _ p (step_within s p)
   completed_within s (Label.Line text) p = next_within s _ _ p (step_within s p)
 
-  names_of : (move : Move State) → KeepsWithin move → Names setup (want_of move)
+  names_of : (move : Move State) → KeepsWithin move → NamesWithin extent (want_of move)
   names_of (goes t) keeps = tt
   names_of (asks want after) keeps = keeps.0
 
-  pub want_within : (s : State) → IsStateWithin extent s → Names setup (want_of (step functions s))
+  pub want_within : (s : State) → IsStateWithin extent s → NamesWithin extent (want_of (step functions s))
   want_within s p = names_of (step functions s) (step_within s p)
 
-  module _ (main private_cells procs me : ℕ) where
-    abbrev first : State
-    first = first_state functions main private_cells procs me
+  pub first_within : (main private_cells procs me : ℕ) → IsStateWithin extent (first_state functions main private_cells procs me)
+  first_within main private_cells procs me = ready_within _ ((body_within extent functions main all, tt), tt)
 
-    pub first_within : IsStateWithin extent first
-    first_within = ready_within _ ((body_within extent functions main all, tt), tt)
+names_in : (setup : Setup) (want : Want) → NamesWithin (extent_of setup) want → Names setup want
+names_in setup Want.Quiet w = w
+names_in setup (Want.Load number line) w = w
+names_in setup (Want.Store number value line) w = w
+names_in setup (Want.Ask lock mode line) w = w
+names_in setup (Want.Take lock mode) w = w
+names_in setup (Want.Give lock line) w = w
+names_in setup (Want.Arrive bar) w = w
+names_in setup (Want.Cross bar) w = w
+names_in setup Want.Line w = w
+names_in setup Want.End w = w
+names_in setup (Want.Stop fault line) w = w
+names_in setup Want.Over w = w
 
-    reached_within : (labels : List Label) → IsStateWithin extent (state_after (program_semantics functions) first labels)
-    reached_within [] = first_within
-    reached_within (label ∷ before) = ready_within _ (completed_within _ label (reached_within before))
+module _ (setup : Setup) (functions : List r.Function) (all : AreFunctionsWithin (extent_of setup) functions) (main private_cells procs me : ℕ) where
+  abbrev first : State
+  first = first_state functions main private_cells procs me
 
-    pub program_stays_within : StaysWithin setup (program_semantics functions) first
-    program_stays_within labels = want_within _ (reached_within labels)
+  reached_within : (labels : List Label) → IsStateWithin (extent_of setup) (state_after (program_semantics functions) first labels)
+  reached_within [] = first_within (extent_of setup) functions all main private_cells procs me
+  reached_within (label ∷ before) =
+      ready_within (extent_of setup) functions all _ (completed_within (extent_of setup) functions all _ label (reached_within before))
+
+  pub program_stays_within : StaysWithin setup (program_semantics functions) first
+  program_stays_within labels = names_in setup _ (want_within (extent_of setup) functions all _ (reached_within labels))

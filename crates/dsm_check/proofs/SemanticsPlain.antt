@@ -11,7 +11,7 @@ use Rattle.dsm_check.specs.Resolved as r
 use Rattle.dsm_check.specs.SemanticsValues.{Outcome, holds, unary_value, step_value, binary_value, operator_of}
 use Rattle.dsm_check.specs.SemanticsSteps.{Move, goes, asks}
 use Rattle.dsm_check.specs.SemanticsItems.{Place, slot, cell, member, LockPlace, one_lock, lock_member, Use, Loop, Item, evaluate, evaluate_all, test_index, load, store, unary, step_by, binary, and_then, or_else, to_truth, choose, enter, discard, execute, run, declare, branch, round, decide, third_part, jump_back, leave, ask, take_lock, give, cross, gather, print, Frame, Life, going, ended, stopped, State, top, below}
-use Rattle.dsm_check.specs.Semantics.{faults, at_member, reaching, place_of, loads, load_at, stores, store_at, comes_to, second, assigning, returns, declaration, declaring, branching, starting, testing, stepping, after_loop, after_body, reaching_lock, at_lock, gathering, evaluation, evaluation_of_all, execution, execution_of_all, act, act_first, step_in, step}
+use Rattle.dsm_check.specs.Semantics.{faults, member_number, at_member, reaching, place_of, loads, load_at, stores, store_at, comes_to, second, assigning, returns, declaration, declaring, branching, starting, testing, stepping, after_loop, after_body, reaching_lock, at_lock, gathering, evaluation, evaluation_of_all, execution, execution_of_all, act, act_first, step_in, step}
 
 -- Plain states, in which no take and no crossing is to be done.
 
@@ -54,10 +54,10 @@ module _ (functions : List r.Function) where
   keeps_if true a b p q = p
   keeps_if false a b p q = q
 
-  keeps_member : (s : State) (array : Array) (line : ℕ) (index : ℤ) (go : ℕ → Move State) → IsPlainState s → ((number : ℕ) → Keeps (go number))
-      → Keeps (at_member s array line index go)
-  keeps_member s array line (pos i) go p h = keeps_if (nat_lt i array.size) (go (array.first + i)) (faults s Fault.Index line) (h (array.first + i)) (λ answer. p)
-  keeps_member s array line (negsuc i) go p h = λ answer. p
+  keeps_member : (s : State) (line : ℕ) (found : Option ℕ) (go : ℕ → Move State) → IsPlainState s → ((number : ℕ) → Keeps (go number))
+      → Keeps (at_member s line found go)
+  keeps_member s line None go p h = λ answer. p
+  keeps_member s line (Some number) go p h = h number
 
   keeps_loads : (s : State) (sharing : Sharing) (number line : ℕ) (after : ℤ → State) → ((v : ℤ) → IsPlainState (after v)) → Keeps (loads s sharing number line after)
   keeps_loads s Sharing.Shared number line after h = h
@@ -124,18 +124,18 @@ module _ (functions : List r.Function) where
   keeps_load s way (slot number) p = p
   keeps_load s way (cell sharing number line) p = keeps_loads s sharing number line _ (λ v. p)
   keeps_load s way (member sharing array line) p =
-      keeps_member s array line (top s.operands) _ p (λ number. keeps_loads s sharing number line _ (λ v. p))
+      keeps_member s line (member_number array (top s.operands)) _ p (λ number. keeps_loads s sharing number line _ (λ v. p))
 
   keeps_store : (s : State) (place : Place) → IsPlainState s → Keeps (store_at s place)
   keeps_store s (slot number) p = p
   keeps_store s (cell sharing number line) p = keeps_stores sharing number line _ _ p
   keeps_store s (member sharing array line) p =
-      keeps_member s array line (top (below s.operands)) _ p (λ number. keeps_stores sharing number line _ _ p)
+      keeps_member s line (member_number array (top (below s.operands))) _ p (λ number. keeps_stores sharing number line _ _ p)
 
   keeps_lock : (s : State) (lock : LockPlace) (go : Lock → ℕ → List ℤ → Move State) → IsPlainState s → ((l : Lock) (line : ℕ) (rest : List ℤ) → Keeps (go l line rest))
       → Keeps (at_lock s lock go)
   keeps_lock s (one_lock lock line) go p h = h lock line s.operands
-  keeps_lock s (lock_member array line) go p h = keeps_member s array line (top s.operands) _ p (λ number. h _ line (below s.operands))
+  keeps_lock s (lock_member array line) go p h = keeps_member s line (member_number array (top s.operands)) _ p (λ number. h _ line (below s.operands))
 
   keeps_evaluation : (s : State) (e : r.Expression) → IsPlainState s → Keeps (evaluation s e)
   keeps_evaluation s (r.number n) p = p
@@ -210,29 +210,23 @@ module _ (functions : List r.Function) where
     asks_then : (l : Lock) (line : ℕ) (rest : List ℤ) → step functions waiting ≡ taking l line rest → Keeps (asking l line rest)
     asks_then l line rest is = λ answer. record { after = λ answer. record s { operands = rest }; is = is; plain = λ answer. p }
 
-    asks_if : (array : Array) (line : ℕ) (number : ℕ) (test : Bool)
-        → step functions waiting ≡ cond test (taking (record { 0 = number }) line (below s.operands)) (faults s Fault.Index line)
-        → Keeps (cond test (asking (record { 0 = number }) line (below s.operands)) (faults s Fault.Index line))
-    asks_if array line number true is = asks_then (record { 0 = number }) line (below s.operands) is
-    asks_if array line number false is = λ answer. p
-
-    asks_member : (array : Array) (line : ℕ) (index : ℤ)
-        → step functions waiting ≡ at_member s array line index (λ number. taking (record { 0 = number }) line (below s.operands))
-        → Keeps (at_member s array line index (λ number. asking (record { 0 = number }) line (below s.operands)))
-    asks_member array line (pos i) is = asks_if array line (array.first + i) (nat_lt i array.size) is
-    asks_member array line (negsuc i) is = λ answer. p
+    asks_member : (line : ℕ) (found : Option ℕ)
+        → step functions waiting ≡ at_member s line found (λ number. taking (record { 0 = number }) line (below s.operands))
+        → Keeps (at_member s line found (λ number. asking (record { 0 = number }) line (below s.operands)))
+    asks_member line None is = λ answer. p
+    asks_member line (Some number) is = asks_then (record { 0 = number }) line (below s.operands) is
 
   keeps_ask : (s : State) (lock : LockPlace) (mode : Mode) → IsPlainState s → s.life ≡ going → Keeps (act functions s (ask lock mode))
   keeps_ask s (one_lock l line) mode p going_on =
       asks_then s (one_lock l line) mode p l line s.operands (ap (step_in functions (record s { todo = take_lock (one_lock l line) mode ∷ s.todo })) going_on)
   keeps_ask s (lock_member array line) mode p going_on =
-      asks_member s (lock_member array line) mode p array line (top s.operands)
+      asks_member s (lock_member array line) mode p line (member_number array (top s.operands))
       (ap (step_in functions (record s { todo = take_lock (lock_member array line) mode ∷ s.todo })) going_on)
 
   keeps_act : (s : State) (item : Item) → IsPlainState s → IsPlain item → s.life ≡ going → Keeps (act functions s item)
   keeps_act s (evaluate e) p i going_on = keeps_evaluation s e p
   keeps_act s (evaluate_all arguments) p i going_on = keeps_all s arguments p
-  keeps_act s (test_index array line) p i going_on = keeps_member s array line (top s.operands) _ p (λ number. p)
+  keeps_act s (test_index array line) p i going_on = keeps_member s line (member_number array (top s.operands)) _ p (λ number. p)
   keeps_act s (load place way) p i going_on = keeps_load s way place p
   keeps_act s (store place) p i going_on = keeps_store s place p
   keeps_act s (unary op line) p i going_on = keeps_outcome s _ line (unary_value op (top s.operands)) p

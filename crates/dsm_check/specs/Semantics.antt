@@ -31,10 +31,15 @@ abbrev pub comes_to : State → List ℤ → ℕ → Outcome → Move State
 comes_to s rest line (Ok value) = leaves s rest value
 comes_to s rest line (Err fault) = faults s fault line
 
--- goes on with the number of an array's member, where the index is one of the array's
-abbrev pub at_member : State → Array → ℕ → ℤ → (ℕ → Move State) → Move State
-at_member s array line (pos i) go = if nat_lt i array.size then go (array.first + i) else faults s Fault.Index line
-at_member s array line (negsuc i) go = faults s Fault.Index line
+-- the number of an array's member, where the index is one of the array's
+abbrev pub member_number : Array → ℤ → Option ℕ
+member_number array (pos i) = if nat_lt i array.size then Some (array.first + i) else None
+member_number array (negsuc i) = None
+
+-- goes on with that number
+abbrev pub at_member : State → ℕ → Option ℕ → (ℕ → Move State) → Move State
+at_member s line None go = faults s Fault.Index line
+at_member s line (Some number) go = go number
 
 -- Loads and stores. The index of a member is tested once it is evaluated, and again where the member is used, since it may have come with a saved thread.
 
@@ -63,7 +68,7 @@ loads s Sharing.Private number line after = goes (after (get_or s.own number (po
 abbrev pub load_at : State → Use → Place → Move State
 load_at s way (slot number) = goes (record s { operands = loaded way [] s.operands (get_or s.slots number (pos 0)) })
 load_at s way (cell sharing number line) = loads s sharing number line (λ v. record s { operands = loaded way [] s.operands v })
-load_at s way (member sharing array line) = at_member s array line (top s.operands) (λ number.
+load_at s way (member sharing array line) = at_member s line (member_number array (top s.operands)) (λ number.
     loads s sharing number line (λ v. record s { operands = loaded way (top s.operands ∷ []) (below s.operands) v }))
 
 abbrev pub stores : Sharing → ℕ → ℕ → ℤ → State → Move State
@@ -73,7 +78,7 @@ stores Sharing.Private number line value after = goes (record after { own = set 
 abbrev pub store_at : State → Place → Move State
 store_at s (slot number) = goes (record s { slots = set s.slots number (top s.operands) })
 store_at s (cell sharing number line) = stores sharing number line (top s.operands) s
-store_at s (member sharing array line) = at_member s array line (top (below s.operands)) (λ number.
+store_at s (member sharing array line) = at_member s line (member_number array (top (below s.operands))) (λ number.
     stores sharing number line (top s.operands) (record s { operands = top s.operands ∷ below (below s.operands) }))
 
 -- Expressions.
@@ -196,7 +201,7 @@ lock_place_of (r.lock_element array index line) = lock_member array line
 -- goes on with the lock, its line, and the operands below its index
 abbrev pub at_lock : State → LockPlace → (Lock → ℕ → List ℤ → Move State) → Move State
 at_lock s (one_lock lock line) go = go lock line s.operands
-at_lock s (lock_member array line) go = at_member s array line (top s.operands) (λ number. go (record { 0 = number }) line (below s.operands))
+at_lock s (lock_member array line) go = at_member s line (member_number array (top s.operands)) (λ number. go (record { 0 = number }) line (below s.operands))
 
 abbrev pub gathering : State → List r.Part → Move State
 gathering s [] = goes s
@@ -241,7 +246,7 @@ execution_of_all s (r.then statement rest) = does s (execute statement ∷ run r
 abbrev pub act : List r.Function → State → Item → Move State
 act functions s (evaluate e) = evaluation s e
 act functions s (evaluate_all arguments) = evaluation_of_all s arguments
-act functions s (test_index array line) = at_member s array line (top s.operands) (λ number. goes s)
+act functions s (test_index array line) = at_member s line (member_number array (top s.operands)) (λ number. goes s)
 act functions s (load place way) = load_at s way place
 act functions s (store place) = store_at s place
 act functions s (unary op line) = comes_to s (below s.operands) line (unary_value op (top s.operands))

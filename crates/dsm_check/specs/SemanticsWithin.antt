@@ -1,10 +1,12 @@
--- A program names only cells, locks and barriers that there are.
+-- A program names only cells, locks and barriers that there are, and so does what remains to be done of it.
 use Rattle.std.specs.Prelude.{ℕ, ◌+◌, ◌<◌, ◌≤◌, List, Option, Some, None}
 use Rattle.std.specs.List.{AllByRecursion}
+use Rattle.dsm_base.specs.declared.label.Want.{Want}
 use Rattle.dsm_base.specs.declared.setup.Setup.{Setup}
 use Rattle.dsm_syntax.specs.declared.tree.Sharing.{Sharing}
 use Rattle.dsm_check.specs.declared.resolved.Array.{Array}
 use Rattle.dsm_check.specs.Resolved as r
+use Rattle.dsm_check.specs.SemanticsItems.{Place, slot, cell, member, LockPlace, one_lock, lock_member, Loop, Item, evaluate, evaluate_all, load, store, and_then, or_else, choose, execute, run, declare, branch, round, decide, third_part, jump_back, ask, take_lock, give, cross, gather, Frame, State}
 
 -- how many shared cells, locks and barriers there are
 pub record Extent : Type 0 where
@@ -97,3 +99,66 @@ abbrev mutual
 
 abbrev pub AreFunctionsWithin : Extent → List r.Function → Type 0
 AreFunctionsWithin extent functions = AllByRecursion (λ function. AreStatementsWithin extent function.body) functions
+
+-- a want names only what there is
+abbrev pub NamesWithin : Extent → Want → Type 0
+NamesWithin extent (Want.Load number line) = number.0 < extent.cells
+NamesWithin extent (Want.Store number value line) = number.0 < extent.cells
+NamesWithin extent (Want.Ask lock mode line) = lock.0 < extent.locks
+NamesWithin extent (Want.Take lock mode) = lock.0 < extent.locks
+NamesWithin extent (Want.Give lock line) = lock.0 < extent.locks
+NamesWithin extent (Want.Arrive bar) = bar.0 < extent.bars
+NamesWithin extent (Want.Cross bar) = bar.0 < extent.bars
+NamesWithin extent _ = Unit {0}
+
+-- What remains to be done names only what there is.
+
+abbrev pub IsPlaceWithin : Extent → Place → Type 0
+IsPlaceWithin extent (slot number) = Unit {0}
+IsPlaceWithin extent (cell sharing number line) = IsCellWithin extent sharing number
+IsPlaceWithin extent (member sharing array line) = IsArrayWithin extent sharing array
+
+abbrev pub IsLockPlaceWithin : Extent → LockPlace → Type 0
+IsLockPlaceWithin extent (one_lock lock line) = lock.0 < extent.locks
+IsLockPlaceWithin extent (lock_member array line) = IsArrayBelow extent.locks array
+
+abbrev pub IsOtherWithin : Extent → Option r.Statement → Type 0
+IsOtherWithin extent None = Unit {0}
+IsOtherWithin extent (Some other) = IsStatementWithin extent other
+
+abbrev pub IsLoopWithin : Extent → Loop → Type 0
+IsLoopWithin extent loop = IsOptionWithin extent loop.test × IsOptionWithin extent loop.step × IsStatementWithin extent loop.body
+
+abbrev pub IsItemWithin : Extent → Item → Type 0
+IsItemWithin extent (evaluate e) = IsWithin extent e
+IsItemWithin extent (evaluate_all arguments) = AreWithin extent arguments
+IsItemWithin extent (load place way) = IsPlaceWithin extent place
+IsItemWithin extent (store place) = IsPlaceWithin extent place
+IsItemWithin extent (and_then e) = IsWithin extent e
+IsItemWithin extent (or_else e) = IsWithin extent e
+IsItemWithin extent (choose a b) = IsWithin extent a × IsWithin extent b
+IsItemWithin extent (execute statement) = IsStatementWithin extent statement
+IsItemWithin extent (run statements) = AreStatementsWithin extent statements
+IsItemWithin extent (declare variables) = AreVariablesWithin extent variables
+IsItemWithin extent (branch body other) = IsStatementWithin extent body × IsOtherWithin extent other
+IsItemWithin extent (round loop) = IsLoopWithin extent loop
+IsItemWithin extent (decide loop) = IsLoopWithin extent loop
+IsItemWithin extent (third_part loop) = IsLoopWithin extent loop
+IsItemWithin extent (jump_back loop) = IsLoopWithin extent loop
+IsItemWithin extent (ask lock mode) = IsLockPlaceWithin extent lock
+IsItemWithin extent (take_lock lock mode) = IsLockPlaceWithin extent lock
+IsItemWithin extent (give lock) = IsLockPlaceWithin extent lock
+IsItemWithin extent (cross bar) = bar.0 < extent.bars
+IsItemWithin extent (gather parts) = ArePartsWithin extent parts
+IsItemWithin extent _ = Unit {0}
+
+abbrev pub AreItemsWithin : Extent → List Item → Type 0
+AreItemsWithin extent [] = Unit {0}
+AreItemsWithin extent (item ∷ k) = IsItemWithin extent item × AreItemsWithin extent k
+
+abbrev pub AreFramesWithin : Extent → List Frame → Type 0
+AreFramesWithin extent [] = Unit {0}
+AreFramesWithin extent (frame ∷ outer) = AreItemsWithin extent frame.todo × AreFramesWithin extent outer
+
+abbrev pub IsStateWithin : Extent → State → Type 0
+IsStateWithin extent s = AreItemsWithin extent s.todo × AreFramesWithin extent s.outer
