@@ -1,5 +1,5 @@
 -- A program names only cells, locks and barriers that there are, and so does what remains to be done of it.
-use Rattle.std.specs.Prelude.{ℕ, ◌+◌, ◌<◌, ◌≤◌, List, Option, Some, None}
+use Rattle.std.specs.Prelude.{ℕ, ◌+◌, ◌<◌, ◌≤◌, List, [], ◌∷◌, Option, Some, None}
 use Rattle.std.specs.List.{AllByRecursion}
 use Rattle.dsm_base.specs.declared.label.Want.{Want}
 use Rattle.dsm_base.specs.declared.setup.Setup.{Setup}
