@@ -1,14 +1,13 @@
 -- Steps without a label end: each leaves less to be done.
 use Rattle.std.proofs.Common.{◌≡◌, ℕ, ◌+◌, ◌<◌, ◌≤◌, nat_lt, ℤ, pos, Bool, true, false, cond, List, [], ◌∷◌, Option, Some, None, Ok, Err, length, arith}
-use Rattle.dsm_base.specs.declared.names.Lock.{Lock}
 use Rattle.dsm_syntax.specs.declared.tree.BinaryOp.{BinaryOp}
 use Rattle.dsm_syntax.specs.declared.tree.Sharing.{Sharing}
 use Rattle.dsm_check.specs.Resolved as r
 use Rattle.dsm_check.specs.SemanticsValues.{Outcome, holds, unary_value, step_value, binary_value, operator_of}
 use Rattle.dsm_check.specs.SemanticsSteps.{Move, goes, asks}
-use Rattle.dsm_check.specs.SemanticsItems.{Place, slot, cell, member, LockPlace, one_lock, lock_member, Use, Loop, Item, evaluate, evaluate_all, test_index, load, store, unary, step_by, binary, and_then, or_else, to_truth, choose, enter, discard, execute, run, declare, branch, round, decide, third_part, jump_back, leave, ask, take_lock, give, cross, gather, print, Frame, Life, going, ended, stopped, State, top, below}
+use Rattle.dsm_check.specs.SemanticsItems.{Place, slot, cell, member, Use, Loop, Item, evaluate, evaluate_all, test_index, load, store, unary, step_by, binary, and_then, or_else, to_truth, choose, enter, discard, execute, run, declare, branch, round, decide, third_part, jump_back, leave, ask, take_lock, give, cross, gather, print, Frame, Life, going, ended, stopped, State, top, below}
 use Rattle.dsm_check.specs.SemanticsWeights.{location_weight, expression_weight, option_weight, start_weight, lock_weight, statement_weight, weight}
-use Rattle.dsm_check.specs.Semantics.{member_number, at_member, reaching, place_of, loads, load_at, stores, store_at, comes_to, second, assigning, returns, declaration, declaring, branching, starting, testing, stepping, after_loop, after_body, reaching_lock, lock_place_of, at_lock, gathering, evaluation, evaluation_of_all, execution, execution_of_all, act, act_first, step_in, step}
+use Rattle.dsm_check.specs.Semantics.{member_number, at_member, reaching, place_of, loads, load_at, stores, store_at, comes_to, second, assigning, returns, declaration, declaring, branching, starting, testing, stepping, after_loop, after_body, reaching_lock, lock_place_of, lock_line, lock_number, gathering, evaluation, evaluation_of_all, execution, execution_of_all, act, act_first, step_in, step}
 use Rattle.dsm_check.proofs.StepsSettle.{Falls}
 
 abbrev pub weight_at : State → ℕ
@@ -91,11 +90,6 @@ less_store n s (slot number) h = h
 less_store n s (cell sharing number line) h = less_stores n sharing number line _ _ h
 less_store n s (member sharing array line) h =
     less_member n s line (member_number array (top (below s.operands))) _ (λ number. less_stores n sharing number line _ _ h)
-
-less_lock : (n : ℕ) (s : State) (lock : LockPlace) (go : Lock → ℕ → List ℤ → Move State) → ((l : Lock) (line : ℕ) (rest : List ℤ) → Less n (go l line rest))
-    → Less n (at_lock s lock go)
-less_lock n s (one_lock lock line) go h = h _ _ _
-less_lock n s (lock_member array line) go h = less_member n s line (member_number array (top s.operands)) _ (λ number. h _ _ _)
 
 evaluation_falls : (s : State) (e : r.Expression) → Less (weight (evaluate e ∷ s.todo)) (evaluation s e)
 evaluation_falls s (r.number n) = omega arith
@@ -198,9 +192,9 @@ act_falls functions s (decide loop) = decide_weight (holds (top s.operands)) s.t
 act_falls functions s (third_part loop) = omega (arith, stepping_weight (jump_back loop ∷ s.todo) loop.step)
 act_falls functions s (jump_back loop) = tt
 act_falls functions s leave = less_return _ s (top s.operands) s.outer
-act_falls functions s (ask lock mode) = less_lock _ s lock _ (λ l line rest. tt)
-act_falls functions s (take_lock lock mode) = less_lock _ s lock _ (λ l line rest. tt)
-act_falls functions s (give lock) = less_lock _ s lock _ (λ l line rest. tt)
+act_falls functions s (ask lock mode) = less_member _ s (lock_line lock) (lock_number lock s.operands) _ (λ number. tt)
+act_falls functions s (take_lock lock mode) = less_member _ s (lock_line lock) (lock_number lock s.operands) _ (λ number. tt)
+act_falls functions s (give lock) = less_member _ s (lock_line lock) (lock_number lock s.operands) _ (λ number. tt)
 act_falls functions s (cross bar) = tt
 act_falls functions s (gather parts) = gathering_falls s parts
 act_falls functions s (print parts) = tt

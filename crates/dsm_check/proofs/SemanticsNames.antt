@@ -2,7 +2,6 @@
 use Rattle.std.proofs.Common.{◌≡◌, ℕ, zero, suc, ◌+◌, ◌<◌, nat_lt, ℤ, pos, negsuc, Bool, true, false, cond, List, [], ◌∷◌, Option, Some, None, Ok, Err, length, refl, subst, arith}
 use Rattle.std.specs.Prelude.{slice_get}
 use borrow.Author.Tests.{ltb-true}
-use Rattle.dsm_base.specs.declared.names.Lock.{Lock}
 use Rattle.dsm_base.specs.declared.names.Fault.{Fault}
 use Rattle.dsm_base.specs.declared.label.Want.{Want}
 use Rattle.dsm_base.specs.declared.label.Label.{Label}
@@ -16,7 +15,7 @@ use Rattle.dsm_check.specs.SemanticsValues.{Outcome, holds, unary_value, step_va
 use Rattle.dsm_check.specs.SemanticsSteps.{Move, goes, asks, want_of, next_of}
 use Rattle.dsm_check.specs.SemanticsItems.{Place, slot, cell, member, LockPlace, one_lock, lock_member, Use, Loop, Item, evaluate, evaluate_all, test_index, load, store, unary, step_by, binary, and_then, or_else, to_truth, choose, enter, discard, execute, run, declare, branch, round, decide, third_part, jump_back, leave, ask, take_lock, give, cross, gather, print, Frame, Life, going, ended, stopped, State, top, below}
 use Rattle.dsm_check.specs.SemanticsWithin.{Extent, extent_of, IsArrayBelow, IsCellWithin, IsArrayWithin, IsLocationWithin, IsWithin, AreWithin, IsOptionWithin, AreVariablesWithin, ArePartsWithin, IsStartWithin, IsLockWithin, IsStatementWithin, AreStatementsWithin, AreFunctionsWithin, NamesWithin, IsPlaceWithin, IsLockPlaceWithin, IsOtherWithin, IsLoopWithin, IsItemWithin, AreItemsWithin, AreFramesWithin, IsStateWithin}
-use Rattle.dsm_check.specs.Semantics.{numbered, entered, faults, member_number, at_member, reaching, place_of, loads, load_at, stores, store_at, comes_to, second, assigning, entering, returns, declaration, declaring, branching, starting, testing, stepping, after_loop, after_body, reaching_lock, lock_place_of, at_lock, gathering, evaluation, evaluation_of_all, execution, execution_of_all, act, act_first, step_in, step, ready, completed, program_semantics, first_state}
+use Rattle.dsm_check.specs.Semantics.{numbered, entered, faults, member_number, at_member, reaching, place_of, loads, load_at, stores, store_at, comes_to, second, assigning, entering, returns, declaration, declaring, branching, starting, testing, stepping, after_loop, after_body, reaching_lock, lock_place_of, lock_line, lock_number, gathering, evaluation, evaluation_of_all, execution, execution_of_all, act, act_first, step_in, step, ready, completed, program_semantics, first_state}
 use Rattle.dsm_check.proofs.StepsSettle.{settled_keeps}
 use Rattle.dsm_check.proofs.SemanticsFalls.{weight_at, step_falls}
 
@@ -153,11 +152,9 @@ module _ (extent : Extent) (functions : List r.Function) (all : AreFunctionsWith
   within_store s (member sharing array line) p c =
       within_member s line (member_number array (top (below s.operands))) _ p (λ number is. within_stores sharing number line _ _ (cell_of_array sharing array (top (below s.operands)) number c is) p)
 
-  within_lock : (s : State) (lock : LockPlace) (go : Lock → ℕ → List ℤ → Move State) → IsStateWithin extent s → IsLockPlaceWithin extent lock
-      → ((l : Lock) (line : ℕ) (rest : List ℤ) → l.0 < extent.locks → KeepsWithin (go l line rest)) → KeepsWithin (at_lock s lock go)
-  within_lock s (one_lock lock line) go p c h = h lock line s.operands c
-  within_lock s (lock_member array line) go p c h =
-      within_member s line (member_number array (top s.operands)) _ p (λ number is. h _ line (below s.operands) (member_below extent.locks array (top s.operands) number c is))
+  lock_below : (lock : LockPlace) (operands : List ℤ) (number : ℕ) → IsLockPlaceWithin extent lock → lock_number lock operands ≡ Some number → number < extent.locks
+  lock_below (one_lock l line) operands number c is = let same : l.0 ≡ number = cc (is) in omega (arith, same)
+  lock_below (lock_member array line) operands number c is = member_below extent.locks array (top operands) number c is
 
   within_evaluation : (s : State) (e : r.Expression) → IsStateWithin extent s → IsWithin extent e → KeepsWithin (evaluation s e)
   within_evaluation s (r.number n) p w = p
@@ -253,9 +250,9 @@ module _ (extent : Extent) (functions : List r.Function) (all : AreFunctionsWith
   within_act s (third_part loop) p w = (within_stepping (jump_back loop ∷ s.todo) loop.step w.1 (w, p.0), p.1)
   within_act s (jump_back loop) p w = (tt, λ answer. ((w, p.0), p.1))
   within_act s leave p w = within_returns s (top s.operands) s.outer p p.1
-  within_act s (ask lock mode) p w = within_lock s lock _ p w (λ l line rest c. (c, λ answer. ((w, p.0), p.1)))
-  within_act s (take_lock lock mode) p w = within_lock s lock _ p w (λ l line rest c. (c, λ answer. p))
-  within_act s (give lock) p w = within_lock s lock _ p w (λ l line rest c. (c, λ answer. p))
+  within_act s (ask lock mode) p w = within_member s (lock_line lock) (lock_number lock s.operands) _ p (λ number is. (lock_below lock s.operands number w is, λ answer. ((w, p.0), p.1)))
+  within_act s (take_lock lock mode) p w = within_member s (lock_line lock) (lock_number lock s.operands) _ p (λ number is. (lock_below lock s.operands number w is, λ answer. p))
+  within_act s (give lock) p w = within_member s (lock_line lock) (lock_number lock s.operands) _ p (λ number is. (lock_below lock s.operands number w is, λ answer. p))
   within_act s (cross bar) p w = (w, λ answer. p)
   within_act s (gather parts) p w = within_gathering s parts p w
   within_act s (print parts) p w = (tt, λ answer. p)

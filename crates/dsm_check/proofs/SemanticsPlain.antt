@@ -8,8 +8,8 @@ use Rattle.dsm_syntax.specs.declared.tree.Sharing.{Sharing}
 use Rattle.dsm_check.specs.Resolved as r
 use Rattle.dsm_check.specs.SemanticsValues.{Outcome, holds, unary_value, step_value, binary_value, operator_of}
 use Rattle.dsm_check.specs.SemanticsSteps.{Move, goes, asks}
-use Rattle.dsm_check.specs.SemanticsItems.{Place, slot, cell, member, LockPlace, one_lock, lock_member, Use, Loop, Item, evaluate, evaluate_all, test_index, load, store, unary, step_by, binary, and_then, or_else, to_truth, choose, enter, discard, execute, run, declare, branch, round, decide, third_part, jump_back, leave, ask, take_lock, give, cross, gather, print, Frame, Life, going, ended, stopped, State, top, below}
-use Rattle.dsm_check.specs.Semantics.{member_number, at_member, reaching, place_of, loads, load_at, stores, store_at, comes_to, second, assigning, returns, declaration, declaring, branching, starting, testing, stepping, after_loop, after_body, reaching_lock, at_lock, gathering, evaluation, evaluation_of_all, execution, execution_of_all, act, act_first, step_in, step}
+use Rattle.dsm_check.specs.SemanticsItems.{Place, slot, cell, member, LockPlace, Use, Loop, Item, evaluate, evaluate_all, test_index, load, store, unary, step_by, binary, and_then, or_else, to_truth, choose, enter, discard, execute, run, declare, branch, round, decide, third_part, jump_back, leave, ask, take_lock, give, cross, gather, print, Frame, Life, going, ended, stopped, State, top, below}
+use Rattle.dsm_check.specs.Semantics.{member_number, at_member, reaching, place_of, loads, load_at, stores, store_at, comes_to, second, assigning, returns, declaration, declaring, branching, starting, testing, stepping, after_loop, after_body, reaching_lock, lock_line, lock_number, below_index, gathering, evaluation, evaluation_of_all, execution, execution_of_all, act, act_first, step_in, step}
 
 -- Plain states, in which no take and no crossing is to be done.
 
@@ -130,11 +130,6 @@ module _ (functions : List r.Function) where
   keeps_store s (member sharing array line) p =
       keeps_member s line (member_number array (top (below s.operands))) _ p (λ number. keeps_stores sharing number line _ _ p)
 
-  keeps_lock : (s : State) (lock : LockPlace) (go : Lock → ℕ → List ℤ → Move State) → IsPlainState s → ((l : Lock) (line : ℕ) (rest : List ℤ) → Keeps (go l line rest))
-      → Keeps (at_lock s lock go)
-  keeps_lock s (one_lock lock line) go p h = h lock line s.operands
-  keeps_lock s (lock_member array line) go p h = keeps_member s line (member_number array (top s.operands)) _ p (λ number. h _ line (below s.operands))
-
   keeps_evaluation : (s : State) (e : r.Expression) → IsPlainState s → Keeps (evaluation s e)
   keeps_evaluation s (r.number n) p = p
   keeps_evaluation s (r.load location) p = (plain_reaching location _ (tt, p.0), p.1)
@@ -199,27 +194,24 @@ module _ (functions : List r.Function) where
     abbrev waiting : State
     waiting = record s { todo = take_lock lock mode ∷ s.todo }
 
-    abbrev asking : Lock → ℕ → List ℤ → Move State
-    asking l line rest = asks (Want.Ask l mode line) (λ answer. waiting)
+    abbrev asking : Lock → Move State
+    asking l = asks (Want.Ask l mode (lock_line lock)) (λ answer. waiting)
 
-    abbrev taking : Lock → ℕ → List ℤ → Move State
-    taking l line rest = asks (Want.Take l mode) (λ answer. record s { operands = rest })
+    abbrev taking : Lock → Move State
+    taking l = asks (Want.Take l mode) (λ answer. record s { operands = below_index lock s.operands })
 
-    asks_then : (l : Lock) (line : ℕ) (rest : List ℤ) → step functions waiting ≡ taking l line rest → Keeps (asking l line rest)
-    asks_then l line rest is = λ answer. record { after = λ answer. record s { operands = rest }; is = is; plain = λ answer. p }
-
-    asks_member : (line : ℕ) (found : Option ℕ)
-        → step functions waiting ≡ at_member s line found (λ number. taking (record { 0 = number }) line (below s.operands))
-        → Keeps (at_member s line found (λ number. asking (record { 0 = number }) line (below s.operands)))
-    asks_member line None is = λ answer. p
-    asks_member line (Some number) is = asks_then (record { 0 = number }) line (below s.operands) is
+    asks_member : (found : Option ℕ) → step functions waiting ≡ at_member s (lock_line lock) found (λ number. taking (record { 0 = number }))
+        → Keeps (at_member s (lock_line lock) found (λ number. asking (record { 0 = number })))
+    asks_member None is = λ answer. p
+    asks_member (Some number) is = λ answer. record {
+      after = λ answer. record s { operands = below_index lock s.operands };
+      is = is;
+      plain = λ answer. p;
+    }
 
   keeps_ask : (s : State) (lock : LockPlace) (mode : Mode) → IsPlainState s → s.life ≡ going → Keeps (act functions s (ask lock mode))
-  keeps_ask s (one_lock l line) mode p going_on =
-      asks_then s (one_lock l line) mode p l line s.operands (ap (step_in functions (record s { todo = take_lock (one_lock l line) mode ∷ s.todo })) going_on)
-  keeps_ask s (lock_member array line) mode p going_on =
-      asks_member s (lock_member array line) mode p line (member_number array (top s.operands))
-      (ap (step_in functions (record s { todo = take_lock (lock_member array line) mode ∷ s.todo })) going_on)
+  keeps_ask s lock mode p going_on =
+      asks_member s lock mode p (lock_number lock s.operands) (ap (step_in functions (record s { todo = take_lock lock mode ∷ s.todo })) going_on)
 
   keeps_act : (s : State) (item : Item) → IsPlainState s → IsPlain item → s.life ≡ going → Keeps (act functions s item)
   keeps_act s (evaluate e) p i going_on = keeps_evaluation s e p
@@ -247,7 +239,7 @@ module _ (functions : List r.Function) where
   keeps_act s leave p i going_on = keeps_returns s (top s.operands) s.outer p p.1
   keeps_act s (ask lock mode) p i going_on = keeps_ask s lock mode p going_on
   keeps_act s (take_lock lock mode) p i going_on = absurd i
-  keeps_act s (give lock) p i going_on = keeps_lock s lock _ p (λ l line rest answer. p)
+  keeps_act s (give lock) p i going_on = keeps_member s (lock_line lock) (lock_number lock s.operands) _ p (λ number answer. p)
   keeps_act s (cross bar) p i going_on = absurd i
   keeps_act s (gather parts) p i going_on = keeps_gathering s parts p
   keeps_act s (print parts) p i going_on = λ answer. p

@@ -198,10 +198,23 @@ abbrev pub lock_place_of : r.LockPlace → LockPlace
 lock_place_of (r.one_lock lock line) = one_lock lock line
 lock_place_of (r.lock_element array index line) = lock_member array line
 
--- goes on with the lock, its line, and the operands below its index
-abbrev pub at_lock : State → LockPlace → (Lock → ℕ → List ℤ → Move State) → Move State
-at_lock s (one_lock lock line) go = go lock line s.operands
-at_lock s (lock_member array line) go = at_member s line (member_number array (top s.operands)) (λ number. go (record { 0 = number }) line (below s.operands))
+-- a lock's number, where its index is one of the array's
+abbrev pub lock_number : LockPlace → List ℤ → Option ℕ
+lock_number (one_lock lock line) operands = Some lock.0
+lock_number (lock_member array line) operands = member_number array (top operands)
+
+abbrev pub lock_line : LockPlace → ℕ
+lock_line (one_lock lock line) = line
+lock_line (lock_member array line) = line
+
+-- the operands below a lock's index, if it has one
+abbrev pub below_index : LockPlace → List ℤ → List ℤ
+below_index (one_lock lock line) operands = operands
+below_index (lock_member array line) operands = below operands
+
+-- goes on with the lock
+abbrev pub at_lock : State → LockPlace → (Lock → Move State) → Move State
+at_lock s lock go = at_member s (lock_line lock) (lock_number lock s.operands) (λ number. go (record { 0 = number }))
 
 abbrev pub gathering : State → List r.Part → Move State
 gathering s [] = goes s
@@ -273,9 +286,9 @@ act functions s (decide loop) =
 act functions s (third_part loop) = does s (stepping (jump_back loop ∷ s.todo) loop.step)
 act functions s (jump_back loop) = asks Want.Quiet (λ answer. record s { todo = round loop ∷ s.todo })
 act functions s leave = returns s (top s.operands) s.outer
-act functions s (ask lock mode) = at_lock s lock (λ l line rest. asks (Want.Ask l mode line) (λ answer. record s { todo = take_lock lock mode ∷ s.todo }))
-act functions s (take_lock lock mode) = at_lock s lock (λ l line rest. asks (Want.Take l mode) (λ answer. record s { operands = rest }))
-act functions s (give lock) = at_lock s lock (λ l line rest. asks (Want.Give l line) (λ answer. record s { operands = rest }))
+act functions s (ask lock mode) = at_lock s lock (λ l. asks (Want.Ask l mode (lock_line lock)) (λ answer. record s { todo = take_lock lock mode ∷ s.todo }))
+act functions s (take_lock lock mode) = at_lock s lock (λ l. asks (Want.Take l mode) (λ answer. record s { operands = below_index lock s.operands }))
+act functions s (give lock) = at_lock s lock (λ l. asks (Want.Give l (lock_line lock)) (λ answer. record s { operands = below_index lock s.operands }))
 act functions s (cross bar) = asks (Want.Cross bar) (λ answer. s)
 act functions s (gather parts) = gathering s parts
 act functions s (print parts) = asks Want.Line (λ answer. record s { operands = drop (values_in parts) s.operands })
