@@ -1,9 +1,12 @@
 //! The machine of one memory, over programs with every name resolved.
 #![tactic(auto)]
 
+mod call;
+mod expression;
 mod frame;
 mod item;
 mod location;
 mod stack;
+mod statement;
 mod thread;
 mod value;
