@@ -14,6 +14,7 @@ use Rattle.dsm_plain.specs.declared.item.Use.{Use}
 use Rattle.dsm_plain.specs.declared.item.Loop.{Loop}
 use Rattle.dsm_plain.specs.declared.item.LoopStage.{LoopStage}
 use Rattle.dsm_plain.specs.declared.item.Item.{Item}
+use Rattle.dsm_plain.specs.declared.call.Callee.{Callee}
 use Rattle.dsm_plain.specs.declared.frame.Frame.{Frame}
 use Rattle.dsm_plain.specs.declared.frame.Life.{Life}
 use Rattle.dsm_plain.specs.declared.thread.PlainThread.{PlainThread}
@@ -76,6 +77,9 @@ item_of (Item.Give lock) = m.give (lock_of lock)
 item_of (Item.Cross bar) = m.cross bar
 item_of (Item.Gather parts) = m.gather (map view_part parts.now)
 item_of (Item.Print parts) = m.print (map view_part parts.now)
+
+abbrev pub callee_of : Callee → r.Function
+callee_of callee = record { params = callee.params; slots = callee.slots; body = view_statements callee.body.now }
 
 abbrev pub frame_of : Frame → m.Frame
 frame_of frame = record { todo = map item_of frame.todo; operands = frame.operands; slots = frame.slots.items }

@@ -3,10 +3,12 @@
 use crate::frame::{Frame, Life};
 use crate::stack::Stack;
 use dsm_check::Function;
+use std::alloc::Global;
 
 /// A thread.
 #[derive(Drop)]
 pub struct PlainThread<'a> {
+    pub alloc: Global,
     pub functions: &'a [Function],
     pub frame: Frame<'a>,
     /// The functions that wait for the one of `frame`, the innermost first.
