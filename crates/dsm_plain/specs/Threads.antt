@@ -1,11 +1,11 @@
 -- What a thread shows: the state that it is in.
-use Rattle.std.specs.Prelude.{◌≡◌, List, map, Option, Some, None}
+use Rattle.std.specs.Prelude.{◌≡◌, map, Option, Some, None}
 use Rattle.std.specs.Borrow.{Bor}
 use Rattle.dsm_base.specs.declared.label.Want.{Want}
 use Rattle.dsm_check.specs.declared.resolved.Expression.{Expression}
 use Rattle.dsm_check.specs.declared.resolved.Statement.{Statement}
 use Rattle.dsm_check.specs.Resolved as r
-use Rattle.dsm_check.specs.Views.{view, views, view_variable, view_part, view_statement, view_statements, view_function}
+use Rattle.dsm_check.specs.Views.{view, views, view_variable, view_part, view_statement, view_statements}
 use Rattle.dsm_check.specs.SemanticsSteps.{Move, goes, asks}
 use Rattle.dsm_check.specs.SemanticsItems as m
 use Rattle.dsm_plain.specs.declared.item.Place.{Place}
@@ -17,7 +17,7 @@ use Rattle.dsm_plain.specs.declared.item.Item.{Item}
 use Rattle.dsm_plain.specs.declared.call.Callee.{Callee}
 use Rattle.dsm_plain.specs.declared.frame.Frame.{Frame}
 use Rattle.dsm_plain.specs.declared.frame.Life.{Life}
-use Rattle.dsm_plain.specs.declared.thread.PlainThread.{PlainThread}
+use Rattle.dsm_plain.specs.declared.progress.Progress.{Progress}
 
 abbrev pub place_of : Place → m.Place
 place_of (Place.Slot number) = m.slot number
@@ -89,17 +89,14 @@ life_of Life.Going = m.going
 life_of Life.Ended = m.ended
 life_of (Life.Stopped fault line) = m.stopped fault line
 
-abbrev pub functions_of : PlainThread → List r.Function
-functions_of thread = map view_function thread.functions.now
-
-abbrev pub state_of : PlainThread → m.State
-state_of thread = record {
-  todo = map item_of thread.frame.todo;
-  operands = thread.frame.operands;
-  slots = thread.frame.slots.items;
-  outer = map frame_of thread.outer;
-  own = thread.own.items;
-  life = life_of thread.life;
+abbrev pub state_of : Progress → m.State
+state_of progress = record {
+  todo = map item_of progress.frame.todo;
+  operands = progress.frame.operands;
+  slots = progress.frame.slots.items;
+  outer = map frame_of progress.outer;
+  own = progress.own.items;
+  life = life_of progress.life;
 }
 
 -- a step was made, or it wants something and all is as it was

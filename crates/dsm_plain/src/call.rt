@@ -8,12 +8,12 @@ ghost use Rattle.dsm_check.specs.Resolved as r;
 ghost use Rattle.dsm_check.specs.Semantics.{numbered};
 ghost use Rattle.dsm_check.specs.SemanticsItems.{run, over};
 ghost use Rattle.dsm_plain.specs.Finished.{return_finished};
-ghost use Rattle.dsm_plain.specs.Threads.{Makes, callee_of, functions_of, state_of, frame_of, life_of};
+ghost use Rattle.dsm_plain.specs.Threads.{Makes, callee_of, state_of, frame_of, life_of};
 
 use crate::frame::{Frame, Life};
 use crate::item::Item;
+use crate::progress::Progress;
 use crate::stack::Stack;
-use crate::thread::PlainThread;
 use dsm_base::{Fault, MemFault, Want};
 use dsm_check::{Function, Statement};
 use std::alloc::Global;
@@ -49,11 +49,7 @@ pub fn callee_at<'a>(functions: &'a [Function], number: u16) -> Callee<'a>
 }
 
 /// The slots of a function that is entered: its arguments, and zeros.
-pub fn new_slots(
-    alloc: Global,
-    callee: Callee<'_>,
-    arguments: &[i64],
-) -> Result<Vec<i64>, MemFault>
+pub fn new_slots(alloc: Global, callee: Callee<'_>, arguments: &[i64]) -> Result<Vec<i64>, MemFault>
     ensures { IfOk result (λ slots. slots.items ≡ Semantics.new_slots (callee_of callee.entry) arguments.now) }
 {
     let mut slots = Vec::from_slice(alloc, arguments)?;
@@ -81,7 +77,7 @@ pub fn new_frame<'a>(
     })
 }
 
-impl<'a> PlainThread<'a> {
+impl<'a> Progress<'a> {
     /// Wants to enter a function, where it isn't one too many.
     pub fn enter(&self, line: u32) -> Want
         ensures { (function : r.Function) → Makes (Semantics.entering (state_of self.now) line function) (state_of self.now) (state_of self.now) (Some result) }
@@ -94,10 +90,10 @@ impl<'a> PlainThread<'a> {
     }
 
     /// Enters the function of a number.
-    pub fn finish_enter(&mut self, number: u16) -> Result<(), MemFault>
-        ensures { OnOk result (state_of self.new ≡ Semantics.entered (state_of self.old) (numbered (slice_get (functions_of self.old) number))) }
+    pub fn finish_enter(&mut self, functions: &'a [Function], number: u16) -> Result<(), MemFault>
+        ensures { OnOk result (state_of self.new ≡ Semantics.entered (state_of self.old) (numbered (slice_get (map view_function functions.now) number))) }
     {
-        let callee = callee_at(self.functions, number);
+        let callee = callee_at(functions, number);
         let count = usize::from(callee.params);
         let frame = new_frame(self.alloc, callee, self.frame.operands.topmost(count))?;
         self.frame.operands.drop_topmost(count);
