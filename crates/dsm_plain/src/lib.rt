@@ -3,6 +3,7 @@
 
 mod call;
 mod expression;
+mod finish;
 mod frame;
 mod item;
 mod location;

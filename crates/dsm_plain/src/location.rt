@@ -124,7 +124,7 @@ impl<'a> Progress<'a> {
     }
 
     /// Leaves a value that has no index.
-    fn leave_loaded(&mut self, way: Use, value: i64) -> Result<(), MemFault>
+    pub fn leave_loaded(&mut self, way: Use, value: i64) -> Result<(), MemFault>
         ensures { OnOk result (state_of self.new ≡ record (state_of self.old) { operands = loaded (use_of way) [] (state_of self.old).operands value }) }
     {
         if let Use::StepBehind = way {
@@ -134,7 +134,7 @@ impl<'a> Progress<'a> {
     }
 
     /// Leaves the value of a member, whose index is on top.
-    fn leave_loaded_member(&mut self, way: Use, value: i64) -> Result<(), MemFault>
+    pub fn leave_loaded_member(&mut self, way: Use, value: i64) -> Result<(), MemFault>
         ensures { OnOk result (state_of self.new ≡ record (state_of self.old) { operands = loaded (use_of way) (top (state_of self.old).operands ∷ []) (below (state_of self.old).operands) value }) }
     {
         let index = self.frame.operands.pop_value();
@@ -194,7 +194,7 @@ impl<'a> Progress<'a> {
     }
 
     /// Drops the index below the value on top.
-    fn drop_index_below(&mut self) -> Result<(), MemFault>
+    pub fn drop_index_below(&mut self) -> Result<(), MemFault>
         ensures { OnOk result (state_of self.new ≡ record (state_of self.old) { operands = top (state_of self.old).operands ∷ below (below (state_of self.old).operands) }) }
     {
         let value = self.frame.operands.pop_value();

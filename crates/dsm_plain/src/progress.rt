@@ -3,7 +3,9 @@
 ghost use Rattle.std.specs.Prelude.{◌≡◌, List, None, Some, IfOk, OnOk};
 ghost use Rattle.dsm_check.specs.Resolved as r;
 ghost use Rattle.dsm_check.specs.Semantics;
-ghost use Rattle.dsm_check.specs.Semantics.{step};
+ghost use Rattle.dsm_check.specs.Semantics.{step, ready};
+ghost use Rattle.dsm_check.specs.SemanticsSteps.{want_of};
+ghost use Rattle.dsm_check.specs.SemanticsWithin.{Extent, IsStateWithin};
 ghost use Rattle.dsm_plain.specs.Sound.{IsSoundItem, IsSoundState};
 ghost use Rattle.dsm_plain.specs.Threads.{Makes, state_of, item_of};
 
@@ -81,5 +83,21 @@ impl<'a> Progress<'a> {
             self.frame.todo.push(item)?;
         }
         Ok(wanted)
+    }
+
+    /// Goes on to the next labelled step, and tells it.
+    pub fn settle(&mut self) -> Result<Want, MemFault>
+        requires { IsSoundState (state_of self.old) }
+        ensures value { IfOk result (λ want. (functions : List r.Function) → want ≡ want_of (step functions (state_of self.new))) }
+        ensures state { OnOk result ((functions : List r.Function) → state_of self.new ≡ ready functions (state_of self.old)) }
+        ensures within { OnOk result ((extent : Extent) → IsStateWithin extent (state_of self.old) → IsStateWithin extent (state_of self.new)) }
+    {
+        'steps: loop {
+            let wanted = self.step()?;
+            match wanted {
+                Some(want) => return Ok(want),
+                None => {}
+            }
+        }
     }
 }
