@@ -8,3 +8,4 @@ pub mod Access
 pub mod Plain
 pub mod Output
 pub mod Agrees
+pub mod Setups

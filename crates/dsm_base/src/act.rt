@@ -15,9 +15,23 @@ pub enum Act {
     Deliver(Proc, Proc),
 }
 
-/// Why a schedule was refused.
+/// Why a schedule or a list of picks was refused. A `line` is a line of its text, counted from 1.
 #[derive(Clone, Copy, Debug, PartialEq, Eq)]
 pub enum SchedErr {
+    /// There is no entry, or the first one doesn't begin with `procs`.
+    NoProcs,
+    /// The line is of no form that an entry has, or a second `procs`.
+    BadEntry { line: u32 },
+    /// A number of the entry isn't in its range.
+    OutOfRange { line: u32 },
+    /// The entry is a second crash.
+    SecondCrash { line: u32 },
+    /// The entry restarts a processor that isn't down.
+    NoCrash { line: u32 },
+    /// The entries stand for more than 500,000 units: so many.
+    TooMany { count: u64 },
+    /// The text has more than 4,194,304 bytes: so many.
+    TooLong { bytes: u32 },
     /// It isn't one of those that can be run yet.
     NotBuilt { line: u32 },
     /// Want of memory.

@@ -69,6 +69,7 @@ setup = record {
   bars = 0;
   cells = 1;
   bindings = record { object = Object.Lock record { 0 = 0 }; first = record { 0 = 0 }; count = 1; owner = 0; phase = 0; period = 0 } ∷ [];
+  kept = refl;
 }
 
 module _ (me : ℕ) (place : Place) where
@@ -138,4 +139,4 @@ unfolding units step deliver
 within = omega arith
 
 is_one_memory : IsOneMemory setup first threads (trace_of units)
-is_one_memory = one_memory setup first threads units (trace_of units) asks_first (refl, tt) (omega arith) within (fits units)
+is_one_memory = one_memory setup first threads units (trace_of units) asks_first (refl, tt) within (fits units)

@@ -9,6 +9,7 @@ use Rattle.dsm_base.specs.declared.label.Label.{Label}
 use Rattle.dsm_base.specs.declared.label.Want.{Want}
 use Rattle.dsm_base.specs.declared.setup.Piece.{Piece}
 use Rattle.dsm_base.specs.declared.setup.Setup.{Setup}
+use Rattle.dsm_base.proofs.Setups.{pieces_within}
 use Rattle.dsm_base.specs.Access.{piece_of, has_cell}
 use Rattle.dsm_base.specs.Threads.{Semantics, AsksFirst}
 use Rattle.dsm_base.specs.Agrees.{AgreesWith}
@@ -32,7 +33,6 @@ use Rattle.dsm_trace.proofs.Deeds.{IsLeftBy, trace_left}
 use Rattle.dsm_laws_runs.specs.Versions.{memory_at}
 use Rattle.dsm_laws_runs.specs.Steps.{Step, turns_of, deeds_by, Brings}
 use Rattle.dsm_laws_runs.proofs.Copies.{agrees_with}
-use Rattle.dsm_laws_locks.specs.Within.{BindsWithin}
 use Rattle.dsm_laws_locks.proofs.Places.{Out}
 use Rattle.dsm_laws_locks.proofs.Wants.{take_wanted, not_taking}
 use Rattle.dsm_laws_locks.proofs.Saved.{AreWithin, saved_brings}
@@ -230,14 +230,14 @@ found_within cells cell (x ∷ xs) piece all e = go (has_cell cell x) refl (foun
     go true h more = inside all.0 h
     go false h more = more (rw h at e)
 
-bound_within : (setup : Setup) → BindsWithin setup → AreWithin setup
-bound_within setup binds lock cell is = go (piece_of setup.bindings cell) refl
+bound_within : (setup : Setup) → AreWithin setup
+bound_within setup lock cell is = go (piece_of setup.bindings cell) refl
   where
     go : (o : Option Piece) → piece_of setup.bindings cell ≡ o → cell < setup.cells
     go None e = absurd (true≢false (sym (rw e at is)))
-    go (Some piece) e = found_within setup.cells cell setup.bindings piece binds e
+    go (Some piece) e = found_within setup.cells cell setup.bindings piece (pieces_within setup) e
 
 pub one_memory : {S : Type 0} (setup : Setup) (first : ℕ → S) (threads : Semantics S) (units : List Act) (trace : List Group) → ((p : ℕ) → AsksFirst threads (first p)) →
-    BindsLocksOnly setup → BindsWithin setup → AllByRecursion (IsWithin setup) units → FitsUnits setup first threads units trace → IsOneMemory setup first threads trace
-one_memory setup first threads units trace asks binds inside within fits =
-    one_memory_of setup first threads record { asks = asks; binds = binds; within = bound_within setup inside } units trace within fits
+    BindsLocksOnly setup → AllByRecursion (IsWithin setup) units → FitsUnits setup first threads units trace → IsOneMemory setup first threads trace
+one_memory setup first threads units trace asks binds within fits =
+    one_memory_of setup first threads record { asks = asks; binds = binds; within = bound_within setup } units trace within fits

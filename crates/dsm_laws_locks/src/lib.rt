@@ -8,12 +8,11 @@ ghost use Rattle.dsm_base.specs.declared.setup.Setup.{Setup};
 ghost use Rattle.dsm_trace.specs.declared.trace.Group.{Group};
 ghost use Rattle.dsm_trace.specs.Fits.{IsWithin, FitsUnits};
 ghost use Rattle.dsm_trace.specs.OneMemory.{BindsLocksOnly, IsOneMemory};
-ghost use Rattle.dsm_laws_locks.specs.Within.{BindsWithin};
 
 use dsm_base::TaskMaker;
 
 /// The history of a trace that fits its units is a run over one memory, with which each processor
-/// agrees, where every piece is bound to a lock and made of cells of the setup.
+/// agrees, where every piece is bound to a lock.
 pub fn one_memory<M: TaskMaker>()
-    ensures { (maker : M) (setup : Setup) (units : List Act) (trace : List Group) → BindsLocksOnly setup → BindsWithin setup → AllByRecursion (IsWithin setup) units → FitsUnits setup (M.first maker setup.procs) M.Made.semantics units trace → IsOneMemory setup (M.first maker setup.procs) M.Made.semantics trace }
+    ensures { (maker : M) (setup : Setup) (units : List Act) (trace : List Group) → BindsLocksOnly setup → AllByRecursion (IsWithin setup) units → FitsUnits setup (M.first maker setup.procs) M.Made.semantics units trace → IsOneMemory setup (M.first maker setup.procs) M.Made.semantics trace }
 {}

@@ -5,3 +5,9 @@ pub mod Heights
 pub mod Programs
 pub mod Refusals
 pub mod Reading
+pub mod Tokens
+pub mod Gives
+pub mod Signs
+pub mod Expressions
+pub mod Statements
+pub mod Items

@@ -1,6 +1,7 @@
 //! How a small program is set up.
 
-ghost use Rattle.std.specs.Prelude.{◌≡◌, ℕ, IfOk};
+ghost use Rattle.std.specs.Prelude.{◌≡◌, ◌≤◌, ℕ, IfOk, IsTrue};
+ghost use Rattle.dsm_base.specs.Setups.{is_proc_count};
 ghost use Rattle.dsm_base.specs.Threads.{StaysWithin};
 ghost use Rattle.dsm_small.specs.Meaning.{small_semantics, small_first};
 ghost use Rattle.dsm_small.specs.Setups.{small_setup};
@@ -22,9 +23,10 @@ const THE_PIECE: Piece = Piece {
 };
 
 impl SmallProgram {
-    /// How the program is set up for so many processors. What its threads want is of this setup.
+    /// How the program is set up for 2 to 16 processors. What its threads want is of this setup.
     pub fn setup(&self, alloc: Global, procs: u8) -> Result<Setup, MemFault>
-        ensures value { IfOk result (λ setup. setup ≡ small_setup self.now procs) }
+        requires { IsTrue (is_proc_count procs) }
+        ensures value { IfOk result (λ setup. (fits : IsTrue (is_proc_count procs)) → setup ≡ small_setup self.now procs fits) }
         ensures within { IfOk result (λ setup. (me : ℕ) → StaysWithin setup small_semantics (small_first self.now procs me)) }
     {
         let count = u8::from(self.has_items);

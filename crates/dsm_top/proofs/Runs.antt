@@ -1,5 +1,5 @@
 -- What a run leaves.
-use Rattle.std.specs.Prelude.{◌≡◌, ◌≤◌, ◌+◌, ℕ, Bool, true, false, if◌then◌else◌, List, [], ◌∷◌, length, take, reverse, Option, Result, IfOk}
+use Rattle.std.specs.Prelude.{◌≡◌, ◌≤◌, ◌+◌, ℕ, Bool, true, false, if◌then◌else◌, List, [], ◌∷◌, length, take, reverse, Option, Result, IfOk, IsTrue}
 use Rattle.std.specs.List.{AllByRecursion}
 use Rattle.std.proofs.Common.{refl, sym, ap, ◌∙◌, arith, subst}
 use Rattle.dsm_base.specs.Causes.{Rose}
@@ -7,10 +7,11 @@ use Rattle.dsm_base.specs.Sink.{appended, TakesPart}
 use Rattle.dsm_base.specs.declared.act.Act.{Act}
 use Rattle.dsm_base.specs.declared.errors.MemFault.{MemFault}
 use Rattle.dsm_base.specs.declared.setup.Setup.{Setup}
+use Rattle.dsm_base.specs.Setups.{is_proc_count}
+use Rattle.dsm_base.specs.Threads.{StaysWithin}
 use Rattle.dsm_trace.specs.declared.trace.Group.{Group}
 use Rattle.dsm_trace.specs.Fits.{IsWithin, FitsUnits}
 use Rattle.dsm_trace.specs.OneMemory.{is_any_lock, BindsLocksOnly, IsOneMemory}
-use Rattle.dsm_laws_locks.specs.Within.{BindsWithin}
 use Rattle.dsm_small.specs.declared.thread.SmallMaker.{SmallMaker}
 use Rattle.dsm_small.specs.declared.tree.SmallProgram.{SmallProgram}
 use Rattle.dsm_small.specs.Meaning.{small_first, small_semantics}
@@ -26,35 +27,30 @@ use Rattle.dsm_top.proofs.Units.{all_front}
 
 -- the law of locks, for threads of small programs
 abbrev pub Law : Type 0
-Law = (maker : SmallMaker) (setup : Setup) (units : List Act) (trace : List Group) → BindsLocksOnly setup → BindsWithin setup → AllByRecursion (IsWithin setup) units →
+Law = (maker : SmallMaker) (setup : Setup) (units : List Act) (trace : List Group) → BindsLocksOnly setup → AllByRecursion (IsWithin setup) units →
     FitsUnits setup (first_by maker setup.procs) small_semantics units trace → IsOneMemory setup (first_by maker setup.procs) small_semantics trace
 
 locks_only : (has_items : Bool) → AllByRecursion (λ piece. is_any_lock piece.object ≡ true) (if has_items then the_piece ∷ [] else [])
 locks_only true = (refl, tt)
 locks_only false = tt
 
-pieces_within : (has_items : Bool) → AllByRecursion (λ piece. piece.first.0 + piece.count ≤ (if has_items then 1 else 0)) (if has_items then the_piece ∷ [] else [])
-pieces_within true = (omega (arith), tt)
-pieces_within false = tt
-
-module _ (program : SmallProgram) (schedule : List Act) (law : Law) (all_within : AllByRecursion (IsWithin (small_setup program 2)) schedule) where
+module _ (program : SmallProgram) (schedule : List Act) (law : Law) (all_within : AllByRecursion (IsWithin (small_setup program 2 refl)) schedule) where
   -- a front of the schedule, as the law has it
-  pub is_run : (units : ℕ) (trace : List Group) → units ≤ length schedule → FitsUnits (small_setup program 2) (small_first program 2) small_semantics (reverse (take units schedule)) trace → IsRun program schedule units trace
+  pub is_run : (units : ℕ) (trace : List Group) → units ≤ length schedule → FitsUnits (small_setup program 2 refl) (small_first program 2) small_semantics (reverse (take units schedule)) trace → IsRun program schedule units trace
   is_run units trace within fits = record {
     within = within;
     fits = fits;
-    one_memory = law record { program = program } (small_setup program 2) (reverse (take units schedule)) trace (locks_only program.has_items) (pieces_within program.has_items)
-        (all_front (IsWithin (small_setup program 2)) schedule units all_within) fits;
+    one_memory = law record { program = program } (small_setup program 2 refl) (reverse (take units schedule)) trace (locks_only program.has_items) (all_front (IsWithin (small_setup program 2 refl)) schedule units all_within) fits;
   }
 
-  module _ (world : SmallWorld) (left : Left) (setup : setup_of world ≡ small_setup program 2) (first : first_in world ≡ small_first program 2)
+  module _ (world : SmallWorld) (left : Left) (setup : setup_of world ≡ small_setup program 2 refl) (first : first_in world ≡ small_first program 2)
       (within : units_of world ≤ length schedule) (fits : FitsFirst world schedule) (trace : left.trace ≡ groups_of world) (units : left.units ≡ units_of world) where
     run : IsRun program schedule left.units left.trace
     run =
         let at_setup = subst (λ s. FitsUnits s (first_in world) small_semantics (reverse (take (units_of world) schedule)) (groups_of world)) setup fits in
-        let at_first = subst (λ f. FitsUnits (small_setup program 2) f small_semantics (reverse (take (units_of world) schedule)) (groups_of world)) first at_setup in
-        let at_units = subst (λ n. FitsUnits (small_setup program 2) (small_first program 2) small_semantics (reverse (take n schedule)) (groups_of world)) (sym units) at_first in
-        let at_trace = subst (λ t. FitsUnits (small_setup program 2) (small_first program 2) small_semantics (reverse (take left.units schedule)) t) (sym trace) at_units in
+        let at_first = subst (λ f. FitsUnits (small_setup program 2 refl) f small_semantics (reverse (take (units_of world) schedule)) (groups_of world)) first at_setup in
+        let at_units = subst (λ n. FitsUnits (small_setup program 2 refl) (small_first program 2) small_semantics (reverse (take n schedule)) (groups_of world)) (sym units) at_first in
+        let at_trace = subst (λ t. FitsUnits (small_setup program 2 refl) (small_first program 2) small_semantics (reverse (take left.units schedule)) t) (sym trace) at_units in
         is_run left.units left.trace (omega (arith, within, units)) at_trace
 
     by_status : (finished : Finished) → RanWhole program schedule left finished → Ran program schedule left (status_of finished)
@@ -91,6 +87,18 @@ module _ (program : SmallProgram) (schedule : List Act) (law : Law) (all_within 
     run = is_run 0 [] (omega (arith)) refl;
     wrote = record { count = 0; taken = sym (appended-nil before) };
   }
+
+-- a setup for two processors
+pub at_two : (setup : Setup) (program : SmallProgram) (procs : ℕ) → procs ≡ 2 → ((fits : IsTrue (is_proc_count procs)) → setup ≡ small_setup program procs fits) → setup ≡ small_setup program 2 refl
+at_two setup program procs two value = subst (λ n. (fits : IsTrue (is_proc_count n)) → setup ≡ small_setup program n fits) two value refl
+
+-- what threads want is of the setup, whatever names it, the program and the number of processors have
+pub stays : (setup given : Setup) (own program : SmallProgram) (procs : ℕ) → setup ≡ given → own ≡ program → given.procs ≡ procs →
+    ((me : ℕ) → StaysWithin given small_semantics (small_first program procs me)) → (me : ℕ) → StaysWithin setup small_semantics (small_first own setup.procs me)
+stays setup given own program procs same_setup same_program count all me =
+    let counted : StaysWithin given small_semantics (small_first program given.procs me) = subst (λ n. StaysWithin given small_semantics (small_first program n me)) (sym count) (all me) in
+    let named : StaysWithin given small_semantics (small_first own given.procs me) = subst (λ one. StaysWithin given small_semantics (small_first one given.procs me)) (sym same_program) counted in
+    subst (λ s. StaysWithin s small_semantics (small_first own s.procs me)) (sym same_setup) named
 
 -- the first states of a program's threads
 pub first_states : (result : Result SmallWorld MemFault) (given program : SmallProgram) (procs : ℕ) → given ≡ program → procs ≡ 2 →

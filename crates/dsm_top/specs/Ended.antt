@@ -1,5 +1,5 @@
 -- How a call ended, and what it left.
-use Rattle.std.specs.Prelude.{◌≡◌, ◌⊎◌, ℕ, ◌≤◌, List, [], ◌∷◌, ◌++◌, length, take, reverse, Option}
+use Rattle.std.specs.Prelude.{◌≡◌, ◌⊎◌, ℕ, ◌≤◌, List, [], ◌∷◌, ◌++◌, length, take, reverse, Option, refl}
 use Rattle.dsm_base.specs.Causes.{Rose}
 use Rattle.dsm_base.specs.Output.{printed_lines}
 use Rattle.dsm_base.specs.Sink.{appended, TakesPart}
@@ -43,8 +43,8 @@ pub record TakesFront (before after : Option (List ℕ)) (bytes : List ℕ) : Ty
 -- the trace of so many units of a schedule, by which the program's threads ran over one memory
 pub record IsRun (program : SmallProgram) (schedule : List Act) (units : ℕ) (trace : List Group) : Type 0 where
   pub within : units ≤ length schedule
-  pub fits : FitsUnits (small_setup program 2) (small_first program 2) small_semantics (reverse (take units schedule)) trace
-  pub one_memory : IsOneMemory (small_setup program 2) (small_first program 2) small_semantics trace
+  pub fits : FitsUnits (small_setup program 2 refl) (small_first program 2) small_semantics (reverse (take units schedule)) trace
+  pub one_memory : IsOneMemory (small_setup program 2 refl) (small_first program 2) small_semantics trace
 
 -- how each thread came to be over
 abbrev pub endings_in : List Group → ℕ → Option Ending

@@ -64,6 +64,13 @@ program_text (ProgErr.NotBuilt line) = codes "not built" ++ at_line line
 program_text ProgErr.Memory = codes "out of memory"
 
 abbrev pub schedule_text : SchedErr → List ℕ
+schedule_text SchedErr.NoProcs = codes "no procs"
+schedule_text (SchedErr.BadEntry line) = codes "bad entry" ++ at_line line
+schedule_text (SchedErr.OutOfRange line) = codes "out of range" ++ at_line line
+schedule_text (SchedErr.SecondCrash line) = codes "second crash" ++ at_line line
+schedule_text (SchedErr.NoCrash line) = codes "no crash" ++ at_line line
+schedule_text (SchedErr.TooMany count) = codes "too many units, " ++ decimal count
+schedule_text (SchedErr.TooLong bytes) = codes "too long, " ++ decimal bytes
 schedule_text (SchedErr.NotBuilt line) = codes "not built" ++ at_line line
 schedule_text SchedErr.Memory = codes "out of memory"
 

@@ -58,6 +58,14 @@ impl Line {
         Ok(())
     }
 
+    pub fn count(&mut self, alloc: Global, count: u64) -> Result<(), MemFault>
+        ensures { OnOk result (self.new ≡ self.old ++ decimal count) }
+    {
+        let digits = count.to_string(alloc)?;
+        self.bytes.extend_from_slice(digits.as_bytes())?;
+        Ok(())
+    }
+
     pub fn as_slice(&self) -> &[u8]
         ensures { result.now ≡ self.now }
     {
@@ -71,6 +79,14 @@ fn write_number(out: &mut Line, alloc: Global, text: &str, number: u32) -> Resul
 {
     out.text(text)?;
     out.number(alloc, number)
+}
+
+/// A text with a count behind it.
+fn write_count(out: &mut Line, alloc: Global, text: &str, count: u64) -> Result<(), MemFault>
+    ensures { OnOk result (out.new ≡ out.old ++ numbered text.now count) }
+{
+    out.text(text)?;
+    out.count(alloc, count)
 }
 
 /// A text with a line of the source behind it.
@@ -202,6 +218,13 @@ fn write_schedule_error(out: &mut Line, alloc: Global, error: SchedErr) -> Resul
     ensures { OnOk result (out.new ≡ out.old ++ schedule_text error) }
 {
     match error {
+        SchedErr::NoProcs => out.text("no procs"),
+        SchedErr::BadEntry { line } => write_at(out, alloc, "bad entry", line),
+        SchedErr::OutOfRange { line } => write_at(out, alloc, "out of range", line),
+        SchedErr::SecondCrash { line } => write_at(out, alloc, "second crash", line),
+        SchedErr::NoCrash { line } => write_at(out, alloc, "no crash", line),
+        SchedErr::TooMany { count } => write_count(out, alloc, "too many units, ", count),
+        SchedErr::TooLong { bytes } => write_number(out, alloc, "too long, ", bytes),
         SchedErr::NotBuilt { line } => write_at(out, alloc, "not built", line),
         SchedErr::Memory => out.text("out of memory"),
     }

@@ -11,8 +11,8 @@ ghost use Rattle.dsm_top.specs.Refusals.{IsReadProgram, RefusesOrMemory};
 use crate::command::RunFiles;
 use crate::status::Status;
 use dsm_base::{Files, ReadErr, SchedErr};
-use dsm_small::{SmallProgram, read_small};
 use dsm_sched::{MOST_BYTES, Schedule, read_schedule};
+use dsm_small::{SmallProgram, read_small};
 use dsm_syntax::{MOST_TEXT, ProgErr, lex};
 use std::alloc::Global;
 
@@ -95,7 +95,7 @@ fn schedule_of<F: Files>(
         Err(SchedErr::NotBuilt { line }) => Err(Status::ScheduleRefused(SchedErr::NotBuilt {
             line,
         })),
-        Err(SchedErr::Memory) => Err(Status::Memory),
+        Err(_) => Err(Status::Memory),
     }
 }
 

@@ -1,6 +1,6 @@
 //! The run of a program by a schedule.
 
-ghost use Rattle.std.specs.Prelude.{◌≡◌, ◌≤◌, [], length, reverse, IfOk, OnOk, IfErr};
+ghost use Rattle.std.specs.Prelude.{◌≡◌, ◌≤◌, [], length, reverse, IfOk, OnOk, IfErr, refl};
 ghost use Rattle.std.specs.List.{AllByRecursion};
 ghost use Rattle.dsm_base.specs.Causes.{HasCause};
 ghost use Rattle.dsm_base.specs.Sink.{appended};
@@ -55,7 +55,7 @@ fn start(alloc: Global, program: SmallProgram, procs: u8) -> Result<World<SmallM
     ensures whole { IfOk result IsWholeWorld }
     ensures no_units { IfOk result (λ world. units_of world ≡ 0) }
     ensures no_trace { IfOk result (λ world. groups_of world ≡ []) }
-    ensures setup { IfOk result (λ world. setup_of world ≡ small_setup program 2) }
+    ensures setup { IfOk result (λ world. setup_of world ≡ small_setup program 2 refl) }
     ensures first { IfOk result (λ world. first_in world ≡ small_first program 2) }
 {
     let setup = Rc::new(alloc, program.setup(alloc, procs)?)?;
@@ -77,7 +77,7 @@ fn status_of(finished: Finished) -> Status
 /// Runs a program by a schedule.
 pub(crate) fn run<K: Sink>(alloc: Global, prepared: Prepared, out: &mut K) -> Report
     requires procs { prepared.schedule.procs ≡ 2 }
-    requires within { AllByRecursion (IsWithin (small_setup prepared.program 2)) prepared.schedule.units }
+    requires within { AllByRecursion (IsWithin (small_setup prepared.program 2 refl)) prepared.schedule.units }
     ensures { Ran prepared.program prepared.schedule.units record { before = K.sink_holds out.old; after = K.sink_holds out.new; faults_before = K.sink_faults out.old; faults_after = K.sink_faults out.new; trace = reverse result.trace; units = result.units } result.status }
 {
     one_memory::<SmallMaker>();

@@ -49,6 +49,7 @@ setup = record {
   bars = 0;
   cells = 1;
   bindings = record { object = Object.Lock record { 0 = 0 }; first = record { 0 = 0 }; count = 1; owner = 0; phase = 0; period = 0 } ∷ [];
+  kept = refl;
 }
 
 -- the trace of some units, both with the newest first

@@ -15,7 +15,7 @@ returns-in_default g c = record {
 pub run-requires-clause-within : goal.run-requires-clause-within
 run-requires-clause-within g c =
     let schedule = c.in-Ok.ensures.accepted.has_schedule in
-    schedule_within (small_setup c.in-Ok.prepared.program 2) refl schedule.text c.in-Ok.prepared.schedule.units schedule.is_schedule
+    schedule_within (small_setup c.in-Ok.prepared.program 2 refl) refl schedule.text c.in-Ok.prepared.schedule.units schedule.is_schedule
 
 pub returns-in-Ok : goal.returns-in-Ok
 returns-in-Ok g c = record {
