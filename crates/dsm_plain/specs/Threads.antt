@@ -17,7 +17,7 @@ use Rattle.dsm_plain.specs.declared.item.Item.{Item}
 use Rattle.dsm_plain.specs.declared.call.Callee.{Callee}
 use Rattle.dsm_plain.specs.declared.frame.Frame.{Frame}
 use Rattle.dsm_plain.specs.declared.frame.Life.{Life}
-use Rattle.dsm_plain.specs.declared.progress.Progress.{Progress}
+use Rattle.dsm_plain.specs.declared.thread.PlainThread.{PlainThread}
 
 abbrev pub place_of : Place → m.Place
 place_of (Place.Slot number) = m.slot number
@@ -89,14 +89,14 @@ life_of Life.Going = m.going
 life_of Life.Ended = m.ended
 life_of (Life.Stopped fault line) = m.stopped fault line
 
-abbrev pub state_of : Progress → m.State
-state_of progress = record {
-  todo = map item_of progress.frame.todo;
-  operands = progress.frame.operands;
-  slots = progress.frame.slots.items;
-  outer = map frame_of progress.outer;
-  own = progress.own.items;
-  life = life_of progress.life;
+abbrev pub state_of : PlainThread → m.State
+state_of thread = record {
+  todo = map item_of thread.frame.todo;
+  operands = thread.frame.operands;
+  slots = thread.frame.slots.items;
+  outer = map frame_of thread.outer;
+  own = thread.own.items;
+  life = life_of thread.life;
 }
 
 -- a step was made, or it wants something and all is as it was

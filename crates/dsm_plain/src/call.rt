@@ -12,7 +12,7 @@ ghost use Rattle.dsm_plain.specs.Threads.{Makes, callee_of, state_of, frame_of, 
 
 use crate::frame::{Frame, Life};
 use crate::item::Item;
-use crate::progress::Progress;
+use crate::thread::PlainThread;
 use crate::stack::Stack;
 use dsm_base::{Fault, MemFault, Want};
 use dsm_check::{Function, Statement};
@@ -77,7 +77,7 @@ pub fn new_frame<'a>(
     })
 }
 
-impl<'a> Progress<'a> {
+impl<'a> PlainThread<'a> {
     /// Wants to enter a function, where it isn't one too many.
     pub fn enter(&self, line: u32) -> Want
         ensures { (function : r.Function) → Makes (Semantics.entering (state_of self.now) line function) (state_of self.now) (state_of self.now) (Some result) }

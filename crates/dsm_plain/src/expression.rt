@@ -11,13 +11,13 @@ ghost use Rattle.dsm_plain.specs.Threads.{Makes, state_of};
 
 use crate::item::{Item, Use};
 use crate::location::place;
-use crate::progress::Progress;
+use crate::thread::PlainThread;
 use crate::value::{binary_value, step_value, unary_value};
 use dsm_base::{Fault, MemFault, Want};
 use dsm_check::{Expression, Location};
 use dsm_syntax::{AssignOp, BinaryOp, StepOp, UnaryOp};
 
-impl<'a> Progress<'a> {
+impl<'a> PlainThread<'a> {
     /// Begins an expression.
     pub fn evaluate(&mut self, e: &'a Expression) -> Result<(), MemFault>
         ensures { OnOk result (Makes (Semantics.evaluation (state_of self.old) (view e.now)) (state_of self.old) (state_of self.new) None) }

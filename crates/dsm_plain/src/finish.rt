@@ -7,7 +7,7 @@ ghost use Rattle.dsm_plain.specs.Finished.{all_finished, finished, load_finished
 ghost use Rattle.dsm_plain.specs.Threads.{state_of, item_of, place_of, use_of};
 
 use crate::item::{Item, LoopStage, Place, Use};
-use crate::progress::Progress;
+use crate::thread::PlainThread;
 use dsm_base::MemFault;
 use dsm_check::{Function, Part, Statement};
 
@@ -24,7 +24,7 @@ pub fn values_in(parts: &[Part]) -> usize
     count
 }
 
-impl<'a> Progress<'a> {
+impl<'a> PlainThread<'a> {
     /// Completes the step that is wanted; the answer is the value of a load.
     pub fn finish(&mut self, functions: &'a [Function], answer: i64) -> Result<(), MemFault>
         ensures { OnOk result (state_of self.new ≡ all_finished (map view_function functions.now) (state_of self.old) (state_of self.old).todo answer) }

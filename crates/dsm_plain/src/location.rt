@@ -10,7 +10,7 @@ ghost use Rattle.dsm_plain.specs.Sound.{IsSoundItem};
 ghost use Rattle.dsm_plain.specs.Threads.{Makes, state_of, place_of, use_of};
 
 use crate::item::{Item, Place, Use};
-use crate::progress::Progress;
+use crate::thread::PlainThread;
 use dsm_base::{Cell, Fault, MemFault, Want};
 use dsm_check::{Array, Location};
 use dsm_syntax::Sharing;
@@ -57,7 +57,7 @@ pub fn set_at(values: &mut Vec<i64>, number: u64, value: i64)
     }
 }
 
-impl<'a> Progress<'a> {
+impl<'a> PlainThread<'a> {
     /// The index of a member comes before all else that is done with the location.
     pub fn reach(&mut self, location: &'a Location) -> Result<(), MemFault>
         ensures { OnOk result (state_of self.new ≡ record (state_of self.old) { todo = reaching (view_location location.now) (state_of self.old).todo }) }

@@ -9,7 +9,7 @@ ghost use Rattle.dsm_plain.specs.Threads.{Makes, state_of, lock_of};
 
 use crate::item::LockAt;
 use crate::location::member_number;
-use crate::progress::Progress;
+use crate::thread::PlainThread;
 use dsm_base::{Fault, Lock, Mode, Want};
 
 impl LockAt {
@@ -24,7 +24,7 @@ impl LockAt {
     }
 }
 
-impl Progress<'_> {
+impl PlainThread<'_> {
     /// The lock, where its index is one of the array's.
     fn find_lock(&self, lock: LockAt) -> Option<Lock>
         requires { IsSoundItem (give (lock_of lock)) }

@@ -12,11 +12,11 @@ ghost use Rattle.dsm_plain.specs.Threads.{Makes, state_of, frame_of, item_of, lo
 use crate::frame::Frame;
 use crate::item::{Item, LockAt, Loop, LoopStage, Place};
 use crate::location::set_at;
-use crate::progress::Progress;
+use crate::thread::PlainThread;
 use dsm_base::{MemFault, Mode, Want};
 use dsm_check::{Expression, ForStart, LockPlace, Part, Statement, Variable};
 
-impl<'a> Progress<'a> {
+impl<'a> PlainThread<'a> {
     /// Begins a statement, or wants to come to a barrier.
     pub fn execute(&mut self, statement: &'a Statement) -> Result<Option<Want>, MemFault>
         ensures { IfOk result (λ wanted. Makes (Semantics.execution (state_of self.old) (view_statement statement.now)) (state_of self.old) (state_of self.new) wanted) }

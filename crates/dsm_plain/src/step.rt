@@ -1,33 +1,18 @@
-//! How far a thread has come.
+//! Steps of a thread.
 
 ghost use Rattle.std.specs.Prelude.{◌≡◌, List, None, Some, IfOk, OnOk};
 ghost use Rattle.dsm_check.specs.Resolved as r;
 ghost use Rattle.dsm_check.specs.Semantics;
-ghost use Rattle.dsm_check.specs.Semantics.{step, ready};
-ghost use Rattle.dsm_check.specs.SemanticsSteps.{want_of};
-ghost use Rattle.dsm_check.specs.SemanticsWithin.{Extent, IsStateWithin};
+ghost use Rattle.dsm_check.specs.Semantics.{step};
 ghost use Rattle.dsm_plain.specs.Sound.{IsSoundItem, IsSoundState};
 ghost use Rattle.dsm_plain.specs.Threads.{Makes, state_of, item_of};
 
-use crate::frame::{Frame, Life};
+use crate::frame::Life;
 use crate::item::Item;
-use crate::stack::Stack;
+use crate::thread::PlainThread;
 use dsm_base::{MemFault, Want};
-use std::alloc::Global;
 
-/// How far a thread has come.
-#[derive(Drop)]
-pub struct Progress<'a> {
-    pub alloc: Global,
-    pub frame: Frame<'a>,
-    /// The functions that wait for the one of `frame`, the innermost first.
-    pub outer: Stack<Frame<'a>>,
-    /// The private cells.
-    pub own: Vec<i64>,
-    pub life: Life,
-}
-
-impl<'a> Progress<'a> {
+impl<'a> PlainThread<'a> {
     /// Does an item, or tells what it wants and leaves all as it is.
     fn act(&mut self, item: Item<'a>) -> Result<Option<Want>, MemFault>
         requires { IsSoundItem (item_of item) }
@@ -67,7 +52,7 @@ impl<'a> Progress<'a> {
     }
 
     /// Makes a step, or tells what is wanted and leaves all as it is.
-    fn step(&mut self) -> Result<Option<Want>, MemFault>
+    pub fn step(&mut self) -> Result<Option<Want>, MemFault>
         requires { IsSoundState (state_of self.old) }
         ensures { IfOk result (λ wanted. (functions : List r.Function) → Makes (step functions (state_of self.old)) (state_of self.old) (state_of self.new) wanted) }
     {
@@ -83,21 +68,5 @@ impl<'a> Progress<'a> {
             self.frame.todo.push(item)?;
         }
         Ok(wanted)
-    }
-
-    /// Goes on to the next labelled step, and tells it.
-    pub fn settle(&mut self) -> Result<Want, MemFault>
-        requires { IsSoundState (state_of self.old) }
-        ensures value { IfOk result (λ want. (functions : List r.Function) → want ≡ want_of (step functions (state_of self.new))) }
-        ensures state { OnOk result ((functions : List r.Function) → state_of self.new ≡ ready functions (state_of self.old)) }
-        ensures within { OnOk result ((extent : Extent) → IsStateWithin extent (state_of self.old) → IsStateWithin extent (state_of self.new)) }
-    {
-        'steps: loop {
-            let wanted = self.step()?;
-            match wanted {
-                Some(want) => return Ok(want),
-                None => {}
-            }
-        }
     }
 }

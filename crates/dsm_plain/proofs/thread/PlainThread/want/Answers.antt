@@ -2,7 +2,7 @@ use Rattle.std.proofs.Common.{◌∙◌, subst, sym}
 use Rattle.dsm_check.specs.SemanticsWithin.{IsStateWithin}
 use Rattle.dsm_plain.specs.Threads.{state_of}
 use Rattle.dsm_plain.proofs.Moves.{same_ready, less_left, still_within, same_state, is_wanted, is_settled}
-use Rattle.dsm_plain.proofs.progress.Progress.settle.Goals as goal
+use Rattle.dsm_plain.proofs.thread.PlainThread.want.Goals as goal
 
 pub step-requires : goal.step-requires
 step-requires c = (c.requires.0, c.requires.1, c.steps.invariant.within c.requires.0 c.requires.2)

@@ -4,7 +4,7 @@ use Rattle.dsm_check.specs.Semantics.{ready}
 use Rattle.dsm_check.specs.SemanticsWeights.{weight}
 use Rattle.dsm_check.specs.SemanticsWithin.{Extent, IsStateWithin}
 use Rattle.dsm_plain.specs.Threads.{state_of}
-use Rattle.dsm_plain.proofs.progress.Progress.settle.Given as goal
+use Rattle.dsm_plain.proofs.thread.PlainThread.want.Given as goal
 
 abbrev pub invariant-steps : goal.invariant-steps
 invariant-steps l = record {
