@@ -1,4 +1,2 @@
 pub mod Arguments
-pub mod WordsOf
-pub mod Rows
 pub mod Refused

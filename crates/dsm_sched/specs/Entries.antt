@@ -1,11 +1,11 @@
 -- The entries of a schedule and the units that they stand for.
-use Rattle.std.specs.Prelude.{ℕ, Bool, false, ◌&&◌, ◌==◌, nat_le, if◌then◌else◌, List, [], ◌∷◌, ◌++◌, length, replicate, Option, Some, None, option_and_then, option_map, codes}
+use Rattle.std.specs.Prelude.{ℕ, Bool, false, ◌&&◌, ◌==◌, nat_le, if◌then◌else◌, List, [], ◌∷◌, ◌++◌, length, map, replicate, Option, Some, None, option_and_then, option_map, codes}
 use Rattle.std.specs.Str.{bytes_eq}
 use Rattle.dsm_base.specs.declared.names.Proc.{Proc}
 use Rattle.dsm_base.specs.declared.act.Act.{Act}
 use Rattle.dsm_sched.specs.declared.entry.Entry.{Entry}
 use Rattle.dsm_sched.specs.declared.entry.Kind.{Kind}
-use Rattle.dsm_sched.specs.Words.{rows_of, number_of}
+use Rattle.dsm_words.specs.Words.{rows_of, number_of}
 
 -- the number that a word stands for, where it is in a range
 abbrev pub number_in : ℕ → ℕ → List ℕ → Option ℕ
@@ -72,4 +72,4 @@ units_after_procs (first ∷ rows) = if is_procs first then option_and_then limi
 
 -- the units of a text of at most 4,194,304 bytes, where it is a schedule
 abbrev pub units_of_text : List ℕ → Option (List Act)
-units_of_text text = if nat_le (length text) 4194304 then units_after_procs (rows_of text) else None
+units_of_text text = if nat_le (length text) 4194304 then units_after_procs (map (λ row. row.words) (rows_of text)) else None

@@ -1,18 +1,18 @@
 -- What a reader of schedules answers, and what is left to read.
-use Rattle.std.specs.Prelude.{◌≡◌, ℕ, Bool, true, false, List, [], ◌∷◌, ◌++◌, Option, Some, None, option_and_then, Result, Ok, Err}
+use Rattle.std.specs.Prelude.{◌≡◌, ℕ, Bool, true, false, List, [], ◌∷◌, ◌++◌, map, Option, Some, None, option_and_then, Result, Ok, Err}
 use Rattle.dsm_base.specs.declared.act.Act.{Act}
 use Rattle.dsm_base.specs.declared.act.SchedErr.{SchedErr}
+use Rattle.dsm_words.specs.Words.{Row}
 use Rattle.dsm_sched.specs.declared.schedule.Schedule.{Schedule}
 use Rattle.dsm_sched.specs.Entries.{units_of, units_after_procs, limited, units_of_text}
-
--- a line with words stands before the others
-abbrev pub onto_rows : List (List ℕ) → List (List (List ℕ)) → List (List (List ℕ))
-onto_rows [] rows = rows
-onto_rows (word ∷ words) rows = (word ∷ words) ∷ rows
 
 -- before the first entry no unit is known
 abbrev pub IsFresh : Bool → List Act → Type 0
 IsFresh begun units = begun ≡ false → units ≡ []
+
+-- the words of each row
+abbrev pub words_in : List Row → List (List (List ℕ))
+words_in rows = map (λ row. row.words) rows
 
 -- the units of a schedule of which these are known and these rows are left
 abbrev pub units_left : Bool → List Act → List (List (List ℕ)) → Option (List Act)

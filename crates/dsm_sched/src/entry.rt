@@ -3,8 +3,8 @@
 ghost use Rattle.std.specs.Prelude.{◌≡◌, ◌≤◌, map};
 ghost use Rattle.dsm_sched.specs.Entries.{number_in, processor_of, count_of, step_of, deliver_of, counted, kind_of, step_entry, deliver_entry, entry_of, is_procs};
 
-use crate::words::number;
 use dsm_base::{Act, Proc};
+use dsm_words::number;
 
 /// So many units of one kind.
 #[derive(Clone, Copy, Debug, PartialEq, Eq)]

@@ -2,11 +2,10 @@
 #![tactic(auto)]
 
 mod entry;
-mod lines;
 mod schedule;
 #[cfg(test)]
 mod tests;
-mod words;
 
+pub use dsm_words::{MOST_BYTES, MOST_UNITS};
 pub use entry::{Entry, Kind};
-pub use schedule::{MOST_BYTES, MOST_UNITS, Schedule, Units, read_schedule};
+pub use schedule::{Schedule, Units, read_schedule};

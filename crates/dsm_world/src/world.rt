@@ -102,13 +102,18 @@ fn start_nodes<M: TaskMaker>(
     Ok(nodes)
 }
 
+/// Whether a processor's thread has ended.
+fn has_ended<T: Task>(node: &Node<T>) -> bool
+    ensures { result ≡ is_ended (processor_of T.state node.now).ending }
+{
+    node.ending() == Some(Ending::Ended)
+}
+
 /// Whether each thread has ended.
 fn all_ended<T: Task>(nodes: &[Node<T>]) -> bool
     ensures { result ≡ list_all (λ node. is_ended (processor_of T.state node).ending) nodes.now }
 {
-    nodes
-        .iter()
-        .all(|node| node.ending() == Some(Ending::Ended))
+    nodes.iter().all(|node| has_ended(node))
 }
 
 /// Whether each thread has ended or stopped.

@@ -2,9 +2,9 @@ use Rattle.std.proofs.Common.{◌≡◌, ◌≤◌, ◌∙◌, ap, sym, ◌∷�
 use Rattle.std.specs.List.{prefix_len}
 use Rattle.std.proofs.lemmas.List.{map-append, length-drop}
 use Rattle.std.proofs.lemmas.Grind.{common_steps}
-use Rattle.dsm_sched.specs.Words.{is_blank, not_blank}
-use Rattle.dsm_sched.proofs.WordsOf.{parted, parted-blanks, prefix_len-blanks, takes_word, TakesWord}
-use Rattle.dsm_sched.proofs.words.words.Goals as goal
+use Rattle.dsm_words.specs.Words.{is_blank, not_blank}
+use Rattle.dsm_words.proofs.WordsOf.{parted, parted-blanks, prefix_len-blanks, takes_word, TakesWord}
+use Rattle.dsm_words.proofs.words.words.Goals as goal
 
 pub loop-rest-init : goal.loop-rest-init
 loop-rest-init c = record {

@@ -3,7 +3,7 @@ use Rattle.std.specs.Prelude.{◌≡◌, ℕ, ◌+◌, ◌≤◌, ◌<◌, Bool,
 use Rattle.std.specs.List.{slice_split, onto_first, prefix_len}
 use Rattle.std.proofs.Common.{refl, ap, ◌∙◌, arith, append-nil, inl, inr, suc}
 use Rattle.std.proofs.lemmas.Bool.{cases_Bool}
-use Rattle.dsm_sched.specs.Words.{is_blank, not_blank, is_something}
+use Rattle.dsm_words.specs.Words.{is_blank, not_blank, is_something}
 
 -- the words of what stands before a comment
 abbrev pub parted : List ℕ → List (List ℕ)

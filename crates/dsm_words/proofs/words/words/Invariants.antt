@@ -1,8 +1,8 @@
 use Rattle.std.proofs.Common.{◌≡◌, ◌++◌, map, length}
 use Rattle.std.specs.List.{prefix_len}
-use Rattle.dsm_sched.specs.Words.{words_of, is_blank}
-use Rattle.dsm_sched.proofs.WordsOf.{parted}
-use Rattle.dsm_sched.proofs.words.words.Given as goal
+use Rattle.dsm_words.specs.Words.{words_of, is_blank}
+use Rattle.dsm_words.proofs.WordsOf.{parted}
+use Rattle.dsm_words.proofs.words.words.Given as goal
 
 -- the words so far and those of the rest are those of the line, and the rest begins with no blank
 abbrev pub invariant-loop-rest : goal.invariant-loop-rest

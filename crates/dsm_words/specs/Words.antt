@@ -1,7 +1,7 @@
--- The words of a schedule: its lines without comments, parted by blanks, and the numbers among them.
+-- The words of a text: its lines without comments, parted by blanks, and the numbers among them.
 use Rattle.std.specs.Prelude.{ℕ, Bool, true, false, ◌&&◌, ◌||◌, ◌==◌, not, nat_le, if◌then◌else◌, List, [], ◌∷◌, length, map, filter, Option, Some, None}
 use Rattle.std.specs.Char.{is_ascii_digit}
-use Rattle.std.specs.List.{slice_split, take_while, list_all}
+use Rattle.std.specs.List.{slice_split, take_while, list_all, enumerate_from}
 use Rattle.std.specs.Str.Lines.{lines}
 use Rattle.std.specs.Str.Parse.{digits_value}
 
@@ -29,9 +29,35 @@ is_something (first ∷ others) = true
 abbrev pub words_of : List ℕ → List (List ℕ)
 words_of line = filter is_something (slice_split is_blank (before_comment line))
 
--- the words of each line that has some
-abbrev pub rows_of : List ℕ → List (List (List ℕ))
-rows_of text = filter is_something (map words_of (lines text))
+-- a line with its number, from 1, and its words
+pub record Row : Type 0 where
+  pub line : ℕ
+  pub words : List (List ℕ)
+
+abbrev pub row_of : ℕ × List ℕ → Row
+row_of numbered = record { line = numbered.0; words = words_of numbered.1 }
+
+abbrev pub has_words : Row → Bool
+has_words row = is_something row.words
+
+-- the lines that have words, numbered from such a number on
+abbrev pub rows_from : ℕ → List ℕ → List Row
+rows_from line text = filter has_words (map row_of (enumerate_from line (lines text)))
+
+abbrev pub rows_of : List ℕ → List Row
+rows_of text = rows_from 1 text
+
+-- what is left to read: a text, and the number of its first line
+pub record Unread : Type 0 where
+  pub line : ℕ
+  pub text : List ℕ
+
+abbrev pub rows_left : Unread → List Row
+rows_left unread = rows_from unread.line unread.text
+
+-- a line in front of rows, where it has words
+abbrev pub with_row : Row → List Row → List Row
+with_row row rows = if has_words row then row ∷ rows else rows
 
 -- a digit other than 0 comes first, but in the number 0
 abbrev pub begins_well : List ℕ → Bool

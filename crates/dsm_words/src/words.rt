@@ -2,7 +2,7 @@
 
 ghost use Rattle.std.specs.Prelude.{◌≡◌, ◌≤◌, length, map, drop, IfOk};
 ghost use Rattle.std.specs.List.{prefix_len};
-ghost use Rattle.dsm_sched.specs.Words.{words_of, number_of, begins_well, before_comment, not_hash, is_blank, not_blank};
+ghost use Rattle.dsm_words.specs.Words.{words_of, number_of, begins_well, before_comment, not_hash, is_blank, not_blank};
 
 use dsm_base::MemFault;
 use std::alloc::Global;
@@ -74,7 +74,7 @@ fn begins_well(word: &[u8]) -> bool
 }
 
 /// The number that a word stands for: `0`, or up to nine digits that don't begin with 0.
-pub(crate) fn number(word: &[u8]) -> Option<u32>
+pub fn number(word: &[u8]) -> Option<u32>
     ensures { result ≡ number_of word.now }
 {
     if !begins_well(word) || word.len() > 9 {

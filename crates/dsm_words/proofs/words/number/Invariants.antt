@@ -2,7 +2,7 @@ use Rattle.std.proofs.Common.{◌≡◌, ◌<◌, ◌^◌, take, true}
 use Rattle.std.specs.List.{list_all}
 use Rattle.std.specs.Char.{is_ascii_digit}
 use Rattle.std.specs.Str.Parse.{digits_value}
-use Rattle.dsm_sched.proofs.words.number.Given as goal
+use Rattle.dsm_words.proofs.words.number.Given as goal
 
 -- the value so far is that of the digits so far
 abbrev pub invariant-loop-digit : goal.invariant-loop-digit

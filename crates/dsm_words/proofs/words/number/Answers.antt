@@ -4,7 +4,7 @@ use Rattle.std.proofs.Math.Nat.{pow-le-pow_right}
 use Rattle.std.proofs.lemmas.Int.Digits.{digits_value_more}
 use Rattle.std.proofs.lemmas.List.Folds.{list_all_more}
 use Rattle.std.proofs.lemmas.Str.{digit_value_digit}
-use Rattle.dsm_sched.proofs.words.number.Goals as goal
+use Rattle.dsm_words.proofs.words.number.Goals as goal
 
 -- a number of at most eight digits
 below : (i : ℕ) → i < 9 → 10 ^ i ≤ 100000000

@@ -5,8 +5,7 @@ use Rattle.std.specs.Str.Lines.{lines, lines_of_parts, strip_carriage_return}
 use Rattle.std.proofs.Common.{refl, ap, ◌∙◌, arith, inl, inr}
 use Rattle.std.proofs.lemmas.Bool.{cases_Bool}
 use Rattle.std.proofs.lemmas.List.Splits.{slice_split_first}
-use Rattle.dsm_sched.specs.Words.{is_something, not_newline, words_of, rows_of}
-use Rattle.dsm_sched.specs.Reading.{onto_rows}
+use Rattle.dsm_words.specs.Words.{not_newline}
 
 is_newline : ℕ → Bool
 is_newline byte = byte == 10
@@ -49,24 +48,12 @@ one_part (byte ∷ bytes) h = elim (cases_Bool (byte == 10)) [
   | inr e ↦ rw e (ap (onto_first byte) (one_part bytes (omega (arith, rw e at h))))
 ]
 
-rows_of_line : (line : List ℕ) (others : List (List ℕ)) (words : List (List ℕ)) → words_of line ≡ words →
-    filter is_something (map words_of (line ∷ others)) ≡ onto_rows (words_of line) (filter is_something (map words_of others))
-rows_of_line line others [] e = rw e refl
-rows_of_line line others (word ∷ words) e = rw e refl
-
-pub rows-first : (text : List ℕ) → prefix_len not_newline text < length text →
-    rows_of text ≡ onto_rows (words_of (strip_carriage_return (take (prefix_len not_newline text) text))) (rows_of (drop (prefix_len not_newline text + 1) text))
-rows-first text h =
-    ap (λ all. filter is_something (map words_of all)) (lines-first text h)
-    ∙ rows_of_line (strip_carriage_return (take (prefix_len not_newline text) text)) (lines (drop (prefix_len not_newline text + 1) text)) (words_of (strip_carriage_return (take (prefix_len not_newline text) text))) refl
-
 whole_part : (byte : ℕ) (bytes : List ℕ) → lines_of_parts ((byte ∷ bytes) ∷ []) ≡ (byte ∷ bytes) ∷ []
 whole_part byte bytes =
     let some : (length (byte ∷ bytes) == 0) ≡ false = grind arith in
     rw some refl
 
-pub rows-last : (text : List ℕ) → prefix_len not_newline text ≡ length text → rows_of text ≡ onto_rows (words_of text) []
-rows-last [] h = refl
-rows-last (byte ∷ bytes) h =
-    ap (λ parts. filter is_something (map words_of (lines_of_parts parts))) (one_part (byte ∷ bytes) h)
-    ∙ ap (λ all. filter is_something (map words_of all)) (whole_part byte bytes) ∙ rows_of_line (byte ∷ bytes) [] (words_of (byte ∷ bytes)) refl
+-- a text without a newline is one line
+pub lines-last : (text : List ℕ) → 0 < length text → prefix_len not_newline text ≡ length text → lines text ≡ text ∷ []
+lines-last [] some h = absurd (omega arith)
+lines-last (byte ∷ bytes) some h = ap lines_of_parts (one_part (byte ∷ bytes) h) ∙ whole_part byte bytes

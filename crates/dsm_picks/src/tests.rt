@@ -1,0 +1,1 @@
+//! Texts with their picks, and texts that are refused.

@@ -1,0 +1,2 @@
+pub mod WordsOf
+pub mod FirstLines
