@@ -1,2 +1,14 @@
 pub mod Resolved
 pub mod Views
+pub mod Environments
+pub mod Checks
+pub mod FileNames
+pub mod Bindings
+pub mod Bodies
+pub mod Programs
+pub mod Setups
+pub mod Answers
+pub mod Scopes
+pub mod Numbers
+pub mod FileTables
+pub mod BodyTables
