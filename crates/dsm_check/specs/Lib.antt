@@ -12,3 +12,9 @@ pub mod Scopes
 pub mod Numbers
 pub mod FileTables
 pub mod BodyTables
+pub mod SemanticsValues
+pub mod SemanticsSteps
+pub mod SemanticsItems
+pub mod SemanticsWeights
+pub mod Semantics
+pub mod SemanticsWithin
