@@ -5,3 +5,5 @@ pub mod Heights
 pub mod Programs
 pub mod Refusals
 pub mod Reading
+pub mod Tokens
+pub mod Gives

@@ -1,5 +1,5 @@
 -- Reading from the left. A reader of what is at most so high gets that height as a number first.
-use Rattle.std.specs.Prelude.{ℕ, zero, suc, Bool, false, if◌then◌else◌, List, [], ◌∷◌, length, Option, slice_get}
+use Rattle.std.specs.Prelude.{ℕ, zero, suc, Bool, false, if◌then◌else◌, List, [], ◌∷◌, ◌++◌, length, Option, slice_get}
 use denote.Enum.Bare.{sameb}
 use Rattle.dsm_syntax.specs.contracts.sign.Sign as sign_type
 use Rattle.dsm_syntax.specs.contracts.word.Word as word_type
@@ -50,15 +50,22 @@ after_sign s more tokens = if is_sign s tokens then more (tail tokens) else unex
 abbrev pub ended_by : {A : Type 0} → Sign → A → Reader A
 ended_by s a tokens = after_sign s (ok a) tokens
 
--- the members of a list behind the first one, each after a comma; there are at most so many
-abbrev pub more_of : {A : Type 0} → Reader A → ℕ → Reader (List A)
-more_of member zero tokens = ok [] tokens
-more_of member (suc n) tokens =
-    if is_sign Sign.Comma tokens
-    then and_then (member (tail tokens)) (λ a rest. and_then (more_of member n rest) (λ others. ok (a ∷ others)))
+-- one after the other for as long as the test holds of what is left; there are at most so many
+abbrev pub repeated : {A : Type 0} → (List Lexeme → Bool) → Reader A → ℕ → Reader (List A)
+repeated goes_on member zero tokens = ok [] tokens
+repeated goes_on member (suc n) tokens =
+    if goes_on tokens
+    then and_then (member tokens) (λ a rest. and_then (repeated goes_on member n rest) (λ others. ok (a ∷ others)))
     else ok [] tokens
 
--- a list parted by commas; each member but the first takes its comma, so there are no more of them than tokens
+-- what comes behind members that were taken
+abbrev pub gathered : {A : Type 0} → List A → Reader (List A) → Reader (List A)
+gathered taken more tokens = and_then (more tokens) (λ others. ok (taken ++ others))
+
+-- the members of a list behind the first one, each after a comma; each takes a token, so there are no more of them
+abbrev pub more_of : {A : Type 0} → Reader A → Reader (List A)
+more_of member tokens = repeated (is_sign Sign.Comma) (after_sign Sign.Comma member) (length tokens) tokens
+
+-- a list parted by commas
 abbrev pub list_of : {A : Type 0} → Reader A → Reader (List A)
-list_of member tokens =
-    and_then (member tokens) (λ a rest. and_then (more_of member (length rest) rest) (λ others. ok (a ∷ others)))
+list_of member tokens = and_then (member tokens) (λ a rest. and_then (more_of member rest) (λ others. ok (a ∷ others)))
