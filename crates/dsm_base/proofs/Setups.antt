@@ -1,6 +1,7 @@
 -- What follows from what every setup keeps.
 use Rattle.std.specs.Prelude.{◌≡◌, ℕ, ◌+◌, ◌≤◌, Bool, true, ◌&&◌, nat_le, List, [], ◌∷◌, IsTrue}
 use Rattle.std.specs.List.{list_all, AllByRecursion}
+use Rattle.std.specs.Cmp.{first_so, second_so}
 use Rattle.std.proofs.Common.{arith, subst, sym}
 use Rattle.std.proofs.Math.Bool.{Bool-set}
 use Rattle.std.proofs.lemmas.Grind.{common_steps}
@@ -34,22 +35,16 @@ same_setup a b procs locks bars cells bindings =
     let parts : parts_of b ≡ parts_of a = sym (λ i. record { procs = procs i; locks = locks i; bars = bars i; cells = cells i; bindings = bindings i }) in
     subst (IsMadeOf b) parts (made_of b) a.kept
 
-first_of_both : (x y : Bool) → (x && y) ≡ true → x ≡ true
-first_of_both x y h = grind (arith, common_steps)
-
-second_of_both : (x y : Bool) → (x && y) ≡ true → y ≡ true
-second_of_both x y h = grind (arith, common_steps)
-
 within : (end cells : ℕ) (bound : Bool) → (nat_le end cells && bound) ≡ true → end ≤ cells
 within end cells bound h = grind (arith, common_steps)
 
 all_within : (locks bars cells : ℕ) (pieces : List Piece) → list_all (is_piece locks bars cells) pieces ≡ true → AllByRecursion (λ piece. piece.first.0 + piece.count ≤ cells) pieces
 all_within locks bars cells [] h = tt
 all_within locks bars cells (piece ∷ pieces) h =
-    (within (piece.first.0 + piece.count) cells _ (first_of_both _ _ h), all_within locks bars cells pieces (second_of_both (is_piece locks bars cells piece) _ h))
+    (within (piece.first.0 + piece.count) cells _ (first_so _ _ h), all_within locks bars cells pieces (second_so (is_piece locks bars cells piece) _ h))
 
 -- the pieces of a setup are made of its cells
 pub pieces_within : (setup : Setup) → AllByRecursion (λ piece. piece.first.0 + piece.count ≤ setup.cells) setup.bindings
 pieces_within setup =
-    let pieces = second_of_both (are_counts setup.procs setup.locks setup.bars setup.cells) (list_all (is_piece setup.locks setup.bars setup.cells) setup.bindings && are_apart setup.bindings) setup.kept in
-    all_within setup.locks setup.bars setup.cells setup.bindings (first_of_both _ (are_apart setup.bindings) pieces)
+    let pieces = second_so (are_counts setup.procs setup.locks setup.bars setup.cells) (list_all (is_piece setup.locks setup.bars setup.cells) setup.bindings && are_apart setup.bindings) setup.kept in
+    all_within setup.locks setup.bars setup.cells setup.bindings (first_so _ (are_apart setup.bindings) pieces)

@@ -70,10 +70,9 @@ fn entry_in(procs: u8, form: Form) -> Option<PickEntry>
     ensures { result ≡ entry_in procs form }
 {
     match form {
-        Form::Pick { proc, count } if proc < u32::from(procs) && is_count(count) => Some(PickEntry::Pick(
-            Proc(proc as u8),
-            count,
-        )),
+        Form::Pick { proc, count } if proc < u32::from(procs) && is_count(count) => Some(
+            PickEntry::Pick(Proc(proc as u8), count),
+        ),
         Form::All { rounds } if is_count(rounds) => Some(PickEntry::All(rounds)),
         _ => None,
     }

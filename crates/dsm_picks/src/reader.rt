@@ -32,12 +32,12 @@ impl PickEntry {
     {
         match self {
             PickEntry::Pick(proc, count) => {
-                for _ in 0..count {
+                'picks: for _ in 0..count {
                     all.push(proc)?;
                 }
             }
             PickEntry::All(rounds) => {
-                for _ in 0..rounds {
+                'rounds: for _ in 0..rounds {
                     push_round(procs, all)?;
                 }
             }
@@ -76,11 +76,7 @@ fn count(procs: u8, entries: &[PickEntry]) -> u64
 }
 
 /// Reads the entries of the rows that are left.
-fn read_entries(
-    alloc: Global,
-    procs: u8,
-    rows: &mut Rows<'_>,
-) -> Result<PickEntries, SchedErr>
+fn read_entries(alloc: Global, procs: u8, rows: &mut Rows<'_>) -> Result<PickEntries, SchedErr>
     ensures said { Gives (λ entries. entries) result (all_or_refusal (map (pick_at procs) (rows_left rows.old))) }
     ensures kept { IfOk result (λ entries. IsTrue (list_all (is_entry procs) entries)) }
     ensures few { IfOk result (λ entries. length entries ≤ length (rows_left rows.old)) }

@@ -1,5 +1,5 @@
 -- The units of a schedule name the two processors.
-use Rattle.std.specs.Prelude.{◌≡◌, ◌≢◌, ◌≤◌, ◌<◌, ℕ, zero, suc, Bool, true, false, ◌&&◌, ◌==◌, nat_le, if◌then◌else◌, List, [], ◌∷◌, ◌++◌, length, replicate, Option, Some, None, option_and_then, option_map, IfSome}
+use Rattle.std.specs.Prelude.{◌≡◌, ◌≢◌, ◌≤◌, ◌<◌, ℕ, zero, suc, Bool, true, false, ◌&&◌, ◌==◌, nat_le, if◌then◌else◌, List, [], ◌∷◌, ◌++◌, length, map, replicate, Option, Some, None, option_and_then, option_map, IfSome}
 use Rattle.std.specs.List.{AllByRecursion}
 use Rattle.std.proofs.Common.{refl, arith, subst}
 use Rattle.std.proofs.lemmas.Grind.{common_steps}
@@ -8,7 +8,7 @@ use Rattle.dsm_base.specs.declared.act.Act.{Act}
 use Rattle.dsm_base.specs.declared.setup.Setup.{Setup}
 use Rattle.dsm_trace.specs.Fits.{IsWithin}
 use Rattle.dsm_sched.specs.declared.entry.Kind.{Kind}
-use Rattle.dsm_sched.specs.Words.{rows_of, number_of}
+use Rattle.dsm_words.specs.Words.{rows_of, number_of}
 use Rattle.dsm_sched.specs.Entries.{number_in, processor_of, count_of, step_of, deliver_of, counted, kind_of, entry_by, entry_of, units_of, is_procs, limited, units_after_procs, units_of_text}
 
 -- What holds of what is there.
@@ -111,7 +111,7 @@ module _ (setup : Setup) (two : setup.procs ≡ 2) where
       (weaker (units_of rows) (AllByRecursion (IsWithin setup)) _ (λ units all. chosen (nat_le (length units) 500000) (Some units) (AllByRecursion (IsWithin setup)) (λ few. all)) (units_within rows)))
 
   text_within : (text : List ℕ) → IfSome (units_of_text text) (AllByRecursion (IsWithin setup))
-  text_within text = chosen (nat_le (length text) 4194304) (units_after_procs (rows_of text)) (AllByRecursion (IsWithin setup)) (λ short. after_procs_within (rows_of text))
+  text_within text = chosen (nat_le (length text) 4194304) (units_after_procs (map (λ row. row.words) (rows_of text))) (AllByRecursion (IsWithin setup)) (λ short. after_procs_within (map (λ row. row.words) (rows_of text)))
 
   -- the units that a text has
   pub schedule_within : (text : List ℕ) (units : List Act) → units_of_text text ≡ Some units → AllByRecursion (IsWithin setup) units

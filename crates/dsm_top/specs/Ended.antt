@@ -1,5 +1,5 @@
 -- How a call ended, and what it left.
-use Rattle.std.specs.Prelude.{◌≡◌, ◌⊎◌, ℕ, ◌≤◌, List, [], ◌∷◌, ◌++◌, length, take, reverse, Option}
+use Rattle.std.specs.Prelude.{◌≡◌, ◌⊎◌, ℕ, ◌≤◌, List, [], ◌∷◌, ◌++◌, length, take, reverse, Option, refl}
 use Rattle.dsm_base.specs.Causes.{Rose}
 use Rattle.dsm_base.specs.Output.{printed_lines}
 use Rattle.dsm_base.specs.Sink.{appended, TakesPart}

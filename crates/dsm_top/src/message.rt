@@ -50,10 +50,18 @@ impl Line {
         Ok(())
     }
 
-    pub fn number(&mut self, alloc: Global, number: u64) -> Result<(), MemFault>
+    pub fn number(&mut self, alloc: Global, number: u32) -> Result<(), MemFault>
         ensures { OnOk result (self.new ≡ self.old ++ decimal number) }
     {
         let digits = number.to_string(alloc)?;
+        self.bytes.extend_from_slice(digits.as_bytes())?;
+        Ok(())
+    }
+
+    pub fn count(&mut self, alloc: Global, count: u64) -> Result<(), MemFault>
+        ensures { OnOk result (self.new ≡ self.old ++ decimal count) }
+    {
+        let digits = count.to_string(alloc)?;
         self.bytes.extend_from_slice(digits.as_bytes())?;
         Ok(())
     }
@@ -66,11 +74,19 @@ impl Line {
 }
 
 /// A text with a number behind it.
-fn write_number(out: &mut Line, alloc: Global, text: &str, number: u64) -> Result<(), MemFault>
+fn write_number(out: &mut Line, alloc: Global, text: &str, number: u32) -> Result<(), MemFault>
     ensures { OnOk result (out.new ≡ out.old ++ numbered text.now number) }
 {
     out.text(text)?;
     out.number(alloc, number)
+}
+
+/// A text with a count behind it.
+fn write_count(out: &mut Line, alloc: Global, text: &str, count: u64) -> Result<(), MemFault>
+    ensures { OnOk result (out.new ≡ out.old ++ numbered text.now count) }
+{
+    out.text(text)?;
+    out.count(alloc, count)
 }
 
 /// A text with a line of the source behind it.
@@ -78,7 +94,7 @@ fn write_at(out: &mut Line, alloc: Global, text: &str, line: u32) -> Result<(), 
     ensures { OnOk result (out.new ≡ out.old ++ (text.now ++ at_line line)) }
 {
     out.text(text)?;
-    write_number(out, alloc, ", line ", u64::from(line))
+    write_number(out, alloc, ", line ", line)
 }
 
 /// A name between two texts, with a line of the source behind it.
@@ -123,7 +139,7 @@ fn write_limit(out: &mut Line, alloc: Global, which: Which, count: u32) -> Resul
     out.text("limit ")?;
     out.text(limit_name(which))?;
     out.text(", count ")?;
-    out.number(alloc, u64::from(count))
+    out.number(alloc, count)
 }
 
 fn write_arguments(
@@ -138,9 +154,9 @@ fn write_arguments(
 {
     out.bytes(name.as_slice())?;
     out.text(" takes ")?;
-    out.number(alloc, u64::from(wanted))?;
+    out.number(alloc, wanted)?;
     out.text(", given ")?;
-    out.number(alloc, u64::from(given))?;
+    out.number(alloc, given)?;
     write_at(out, alloc, "", line)
 }
 
@@ -148,15 +164,15 @@ fn write_overlap(out: &mut Line, alloc: Global, cell: u32, line: u32) -> Result<
     ensures { OnOk result (out.new ≡ out.old ++ program_text (ProgErr.BindOverlap cell line)) }
 {
     out.text("cell ")?;
-    out.number(alloc, u64::from(cell))?;
+    out.number(alloc, cell)?;
     write_at(out, alloc, " bound twice", line)
 }
 
 fn write_owner(out: &mut Line, alloc: Global, owner: u32, procs: u8) -> Result<(), MemFault>
     ensures { OnOk result (out.new ≡ out.old ++ program_text (ProgErr.BindOwner owner procs)) }
 {
-    write_number(out, alloc, "owner ", u64::from(owner))?;
-    write_number(out, alloc, " with ", u64::from(procs))?;
+    write_number(out, alloc, "owner ", owner)?;
+    write_number(out, alloc, " with ", u32::from(procs))?;
     out.text(" processors")
 }
 
@@ -207,8 +223,8 @@ fn write_schedule_error(out: &mut Line, alloc: Global, error: SchedErr) -> Resul
         SchedErr::OutOfRange { line } => write_at(out, alloc, "out of range", line),
         SchedErr::SecondCrash { line } => write_at(out, alloc, "second crash", line),
         SchedErr::NoCrash { line } => write_at(out, alloc, "no crash", line),
-        SchedErr::TooMany { count } => write_number(out, alloc, "too many units, ", count),
-        SchedErr::TooLong { bytes } => write_number(out, alloc, "too long, ", u64::from(bytes)),
+        SchedErr::TooMany { count } => write_count(out, alloc, "too many units, ", count),
+        SchedErr::TooLong { bytes } => write_number(out, alloc, "too long, ", bytes),
         SchedErr::NotBuilt { line } => write_at(out, alloc, "not built", line),
         SchedErr::Memory => out.text("out of memory"),
     }

@@ -1,6 +1,6 @@
 //! The run of a program by a schedule.
 
-ghost use Rattle.std.specs.Prelude.{◌≡◌, ◌≤◌, [], length, reverse, IfOk, OnOk, IfErr};
+ghost use Rattle.std.specs.Prelude.{◌≡◌, ◌≤◌, [], length, reverse, IfOk, OnOk, IfErr, refl};
 ghost use Rattle.std.specs.List.{AllByRecursion};
 ghost use Rattle.dsm_base.specs.Causes.{HasCause};
 ghost use Rattle.dsm_base.specs.Sink.{appended};

@@ -1,11 +1,14 @@
 -- The lines of a text, one after another.
-use Rattle.std.specs.Prelude.{◌≡◌, ℕ, suc, ◌+◌, ◌<◌, ◌==◌, Bool, false, List, [], ◌∷◌, length, filter, map, take, drop}
-use Rattle.std.specs.List.{slice_split, onto_first, prefix_len}
+use Rattle.std.specs.Prelude.{◌≡◌, ℕ, suc, ◌+◌, ◌<◌, ◌≤◌, ◌==◌, Bool, false, List, [], ◌∷◌, length, map, take, drop}
+use Rattle.std.specs.List.{slice_split, onto_first, prefix_len, enumerate_from}
 use Rattle.std.specs.Str.Lines.{lines, lines_of_parts, strip_carriage_return}
 use Rattle.std.proofs.Common.{refl, ap, ◌∙◌, arith, inl, inr}
 use Rattle.std.proofs.lemmas.Bool.{cases_Bool}
-use Rattle.std.proofs.lemmas.List.Splits.{slice_split_first}
-use Rattle.dsm_words.specs.Words.{not_newline}
+use Rattle.std.proofs.lemmas.List.{length-map}
+use Rattle.std.proofs.lemmas.List.FromFn.{length-enumerate_from}
+use Rattle.std.proofs.lemmas.List.Splits.{slice_split_first, length-slice_split}
+use Rattle.std.proofs.lemmas.List.Sums.{length-filter, count_by-le-length}
+use Rattle.dsm_words.specs.Words.{not_newline, rows_from, has_words, row_of}
 
 is_newline : ℕ → Bool
 is_newline byte = byte == 10
@@ -57,3 +60,16 @@ whole_part byte bytes =
 pub lines-last : (text : List ℕ) → 0 < length text → prefix_len not_newline text ≡ length text → lines text ≡ text ∷ []
 lines-last [] some h = absurd (omega arith)
 lines-last (byte ∷ bytes) some h = ap lines_of_parts (one_part (byte ∷ bytes) h) ∙ whole_part byte bytes
+
+few_lines : (parts : List (List ℕ)) → length (lines_of_parts parts) ≤ length parts
+few_lines [] = omega arith
+few_lines (part ∷ []) = elim (cases_Bool (length part == 0)) [ inl e ↦ rw e (omega arith) | inr e ↦ rw e (omega arith) ]
+few_lines (part ∷ next ∷ parts) = let fewer : length (lines_of_parts (next ∷ parts)) ≤ length (next ∷ parts) = few_lines (next ∷ parts) in omega (arith, fewer)
+
+-- a text has at most one row more than bytes
+pub few_rows : (line : ℕ) (text : List ℕ) → length (rows_from line text) ≤ length text + 1
+few_rows line text =
+    let numbered = map row_of (enumerate_from line (lines text)) in
+    let kept : length (rows_from line text) ≤ length numbered = rw length-filter (count_by-le-length has_words numbered) in
+    let as_lines : length numbered ≡ length (lines text) = length-map (enumerate_from line (lines text)) row_of ∙ length-enumerate_from line (lines text) in
+    omega (arith, kept, as_lines, few_lines (slice_split (λ b. b == 10) text), length-slice_split (λ b. b == 10) text, count_by-le-length (λ b. b == 10) text)

@@ -1,2 +1,3 @@
 pub mod WordsOf
 pub mod FirstLines
+pub mod Entries

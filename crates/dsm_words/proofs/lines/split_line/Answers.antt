@@ -1,4 +1,4 @@
-use Rattle.std.proofs.Common.{◌≡◌, ◌∙◌, ap, sym, ◌∷◌, ◌+◌, ◌-◌, ◌<◌, [], length, take, drop, arith, List, ℕ}
+use Rattle.std.proofs.Common.{◌≡◌, ◌∙◌, ap, sym, ◌∷◌, ◌+◌, ◌-◌, [], length, take, drop, arith, List, ℕ}
 use Rattle.std.proofs.lemmas.Grind.{common_steps}
 use Rattle.std.specs.List.{prefix_len}
 use Rattle.std.specs.Str.Lines.{lines, strip_carriage_return}
@@ -23,7 +23,7 @@ returns-else-end-text-clause-lines c =
     let end = c.line_len-end.result in
     let is : prefix_len not_newline text ≡ end = sym c.line_len-end.ensures.len in
     let first : strip_carriage_return (take (prefix_len not_newline text) text) ≡ c.without_return.result.now =
-        ap (λ n. strip_carriage_return (take n text)) is ∙ sym c.without_return.ensures in
+    ap (λ n. strip_carriage_return (take n text)) is ∙ sym c.without_return.ensures in
     let others : drop (prefix_len not_newline text + 1) text ≡ take (length text - (end + 1)) (drop (end + 1) text) =
-        ap (λ n. drop (n + 1) text) is ∙ sym (all_behind text (end + 1)) in
+    ap (λ n. drop (n + 1) text) is ∙ sym (all_behind text (end + 1)) in
     lines-first text (omega (arith, is, c.if-end-text.false, c.line_len-end.ensures.within)) ∙ (λ k. first k ∷ lines (others k))
