@@ -42,6 +42,21 @@ abbrev pub as_shared : Name → Named → Check Array
 as_shared name (Named.Cells Sharing.Shared first size) = Ok (record { first = first; size = extent size })
 as_shared name _ = wrong_kind name
 
+abbrev pub locks_of : List Entry → Name → Check (ℕ × Option ℕ)
+locks_of names name = do
+  named ← used names name
+  as_locks name named
+
+abbrev pub barrier_of : List Entry → Name → Check ℕ
+barrier_of names name = do
+  named ← used names name
+  as_barrier name named
+
+abbrev pub shared_of : List Entry → Name → Check Array
+shared_of names name = do
+  named ← used names name
+  as_shared name named
+
 -- What is bound.
 
 -- the first of so many cells that is bound already
@@ -95,11 +110,9 @@ is_rhythm bind =
 
 abbrev pub with_bind : List Entry → List Piece → Bind → Check (List Piece)
 with_bind names pieces bind = do
-  lock ← used names bind.lock
-  locks ← as_locks bind.lock lock
+  locks ← locks_of names bind.lock
   index ← as_index bind.lock locks.1 bind.index
-  data_named ← used names bind.data
-  cells ← as_shared bind.data data_named
+  cells ← shared_of names bind.data
   let first = cells.first + natural bind.first
   let count = natural bind.count
   if nat_lt index (extent locks.1) && is_range cells (natural bind.first) count
@@ -108,11 +121,9 @@ with_bind names pieces bind = do
 
 abbrev pub with_bind_each : List Entry → List Piece → BindEach → Check (List Piece)
 with_bind_each names pieces bind = do
-  lock ← used names bind.locks
-  locks ← as_locks bind.locks lock
+  locks ← locks_of names bind.locks
   size ← as_size bind.locks locks.1
-  data_named ← used names bind.data
-  cells ← as_shared bind.data data_named
+  cells ← shared_of names bind.data
   let count = natural bind.count
   if not (count == 0) && nat_le (size * count) cells.size
       then bound pieces bind.line cells.first (size * count) (lock_pieces locks.0 cells.first count size)
@@ -120,10 +131,8 @@ with_bind_each names pieces bind = do
 
 abbrev pub with_bind_barrier : List Entry → List Piece → BindBarrier → Check (List Piece)
 with_bind_barrier names pieces bind = do
-  named ← used names bind.barrier
-  barrier ← as_barrier bind.barrier named
-  data_named ← used names bind.data
-  cells ← as_shared bind.data data_named
+  barrier ← barrier_of names bind.barrier
+  cells ← shared_of names bind.data
   let first = cells.first + natural bind.first
   if is_range cells (natural bind.first) (natural bind.count) && is_rhythm bind
       then bound pieces bind.line first (natural bind.count) (barrier_piece barrier first bind ∷ [])

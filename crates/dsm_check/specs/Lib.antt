@@ -10,6 +10,7 @@ pub mod Setups
 pub mod Answers
 pub mod Scopes
 pub mod Numbers
+pub mod Overlaps
 pub mod FileTables
 pub mod BodyTables
 pub mod SemanticsValues

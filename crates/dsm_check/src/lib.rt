@@ -1,6 +1,7 @@
 //! The rules of programs, and programs with every name resolved.
 #![tactic(auto)]
 
+mod bindings;
 mod body;
 mod expression;
 mod items;
