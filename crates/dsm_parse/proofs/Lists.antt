@@ -5,7 +5,7 @@ use Rattle.dsm_syntax.specs.declared.sign.Sign.{Sign}
 use Rattle.dsm_parse.specs.Lexemes.{Lexeme, sign}
 use Rattle.dsm_parse.specs.Grammar.{spell_more, spell_list, spell_option, Listed}
 use Rattle.dsm_parse.specs.Heights.{highest, height_option}
-use Rattle.dsm_parse.specs.Reading.{ok, unexpected, Reader, and_then, tail, is_sign, after_sign, gathered, more_of, list_of}
+use Rattle.dsm_parse.specs.Reading.{Read, ok, unexpected, Reader, and_then, tail, is_sign, after_sign, gathered, more_of, list_of}
 use Rattle.dsm_parse.specs.declared.refusal.Refusal.{Refusal}
 use Rattle.dsm_parse.specs.Gives.{Gives}
 use Rattle.dsm_parse.proofs.Fronts.{Looks, is_sign_look, of_sign}
@@ -95,6 +95,12 @@ module _ {A : Type 0} {spell : A → List Lexeme} {Fits : A → Type 0} {height 
   more_gathers_none taken ts see see' why left e one =
       gathers_none (spell_after spell) Fits height F (is_sign Sign.Comma) (λ m. after_sign Sign.Comma (member m)) (is_sign_look Sign.Comma) refl (λ a f. omega arith) d (λ ts e. good_member good ts)
       taken ts see see' why left e (subst (λ r. Gives see r (Err why) left) (sym (ap (λ b. cond b (member d (tail ts)) (unexpected ts)) e)) one)
+
+  -- the same as the code's loop says it
+  pub more_turn : {read : Read (List A)} {all : List A} {a : A} {mid rest : List Lexeme} (taken : List A) (ts : List Lexeme) → read ≡ gathered taken (more_of (member d)) ts → is_sign Sign.Comma ts ≡ true
+      → mid ≡ tail ts → member d mid ≡ ok a rest → all ≡ taken ++ a ∷ [] → read ≡ gathered all (more_of (member d)) rest
+  more_turn {read} {all} {a} {mid} {rest} taken ts so e skipped one pushed =
+      so ∙ more_gathers taken a ts rest e (ap (member d) (sym skipped) ∙ one) ∙ ap (λ l. gathered l (more_of (member d)) rest) (sym pushed)
 
 pub more_gathered : {A : Type 0} (member : Reader A) (taken : List A) (ts : List Lexeme) → is_sign Sign.Comma ts ≡ false → gathered taken (more_of member) ts ≡ ok taken ts
 more_gathered member taken ts e =

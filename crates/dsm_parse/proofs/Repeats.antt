@@ -24,6 +24,9 @@ Stopped goes_on all next = (r : List Lexeme) → look r ≡ next → goes_on r �
 abbrev pub all_of : {A : Type 0} → (List Lexeme → Bool) → (ℕ → Reader A) → ℕ → Reader (List A)
 all_of goes_on member m tokens = repeated goes_on (member m) (length tokens) tokens
 
+abbrev pub AllOf : {A : Type 0} → (A → List Lexeme) → (A → Type 0) → (A → ℕ) → Language (List A)
+AllOf spell Fits height = Spelled (flat_map spell) (AllByRecursion Fits) (highest height)
+
 pub stops : {A : Type 0} (goes_on : List Lexeme → Bool) (member : Reader A) (k : ℕ) (ts : List Lexeme) → goes_on ts ≡ false → repeated goes_on member k ts ≡ ok [] ts
 stops goes_on member zero ts e = refl
 stops goes_on member (suc k) ts e = rw e refl
@@ -33,8 +36,8 @@ pub turns : {A : Type 0} (goes_on : List Lexeme → Bool) (member : Reader A) (k
 turns goes_on member k ts e = rw e refl
 
 module _ {A : Type 0} (spell : A → List Lexeme) (Fits : A → Type 0) (height : A → ℕ) (F : Follow A) (goes_on : List Lexeme → Bool) (member : ℕ → Reader A) where
-  abbrev pub AllOf : Language (List A)
-  AllOf = Spelled (flat_map spell) (AllByRecursion Fits) (highest height)
+  abbrev Every : Language (List A)
+  Every = AllOf spell Fits height
 
   module _ (looks : Looks goes_on) (ends : goes_on [] ≡ false) (long : (a : A) → Fits a → 1 ≤ length (spell a)) (d : ℕ)
       (good : (ts : List Lexeme) → goes_on ts ≡ true → Good (Spelled spell Fits height) F member d ts) where
@@ -45,21 +48,21 @@ module _ {A : Type 0} (spell : A → List Lexeme) (Fits : A → Type 0) (height 
     record Took (ts : List Lexeme) (all : List A) (rest : List Lexeme) : Type 0 where
       pre : List Lexeme
       split : ts ≡ pre ++ rest
-      is : AllOf d all pre
+      is : Every d all pre
       next : Stopped goes_on all (look rest)
       again : (m : ℕ) → d ≤ m → Again pre (look rest) (ok all) m
 
     record Refused (ts rest : List Lexeme) : Type 0 where
       pre : List Lexeme
       split : ts ≡ pre ++ rest
-      begun : Begins AllOf d pre
+      begun : Begins Every d pre
       again : (m : ℕ) → d ≤ m → Again pre (look rest) unexpected m
 
     record Nested (ts rest : List Lexeme) : Type 0 where
       pre : List Lexeme
       split : ts ≡ pre ++ rest
-      begun : Begins AllOf d pre
-      past : BeginsPast AllOf d pre (look rest)
+      begun : Begins Every d pre
+      past : BeginsPast Every d pre (look rest)
       again : Again pre (look rest) too_high d
 
     abbrev Answered : List Lexeme → Read (List A) → Type 0
@@ -99,10 +102,10 @@ module _ {A : Type 0} (spell : A → List Lexeme) (Fits : A → Type 0) (height 
             ∙ ap (λ y. and_then y (λ a rest. and_then (repeated goes_on (member m) k rest) (λ others. ok (a ∷ others)))) (one r lk)
             ∙ passes r (λ a rest. and_then (repeated goes_on (member m) k rest) (λ others. ok (a ∷ others)))
 
-    alone : (m : ℕ) (a : A) (w : List Lexeme) → Spelled spell Fits height m a w → AllOf m (a ∷ []) w
+    alone : (m : ℕ) (a : A) (w : List Lexeme) → Spelled spell Fits height m a w → Every m (a ∷ []) w
     alone m a w h = record { is = append-nil (spell a) ∙ h.is; fits = (h.fits, tt); low = let l = h.low in omega arith }
 
-    longer : (m : ℕ) (a : A) (all : List A) (u v : List Lexeme) → d ≤ m → Spelled spell Fits height d a u → AllOf m all v → AllOf m (a ∷ all) (u ++ v)
+    longer : (m : ℕ) (a : A) (all : List A) (u v : List Lexeme) → d ≤ m → Spelled spell Fits height d a u → Every m all v → Every m (a ∷ all) (u ++ v)
     longer m a all u v le h g = record { is = ap (λ l. l ++ flat_map spell all) h.is ∙ ap (λ l. u ++ l) g.is; fits = (h.fits, g.fits); low = let l = h.low in let k = g.low in omega arith }
 
     step : (ts : List Lexeme) → ((mid : List Lexeme) → length mid < length ts → (k : ℕ) → length mid ≤ k → Answered mid (repeated goes_on (member d) k mid))
@@ -118,11 +121,11 @@ module _ {A : Type 0} (spell : A → List Lexeme) (Fits : A → Type 0) (height 
         taken : {a : A} (u : List Lexeme) → Spelled spell Fits height d a u → 1 ≤ length u
         taken {a} u h = omega (arith, ap length h.is, long a h.fits)
 
-        begins : {a : A} (u pre : List Lexeme) → Spelled spell Fits height d a u → Begins AllOf d pre → Begins AllOf d (u ++ pre)
+        begins : {a : A} (u pre : List Lexeme) → Spelled spell Fits height d a u → Begins Every d pre → Begins Every d (u ++ pre)
         begins {a} u pre h b = record {
           value = a ∷ b.value;
           more = b.more;
-          is = subst (AllOf d (a ∷ b.value)) (sym (append_assoc u pre b.more)) (longer d a b.value u (pre ++ b.more) (omega arith) h b.is);
+          is = subst (Every d (a ∷ b.value)) (sym (append_assoc u pre b.more)) (longer d a b.value u (pre ++ b.more) (omega arith) h b.is);
         }
 
         on : (a : A) (mid : List Lexeme) → goes_on ts ≡ true → (g : Takes (Spelled spell Fits height) F member d ts a mid) (r : Read (List A)) → Answered mid r
@@ -151,7 +154,7 @@ module _ {A : Type 0} (spell : A → List Lexeme) (Fits : A → Type 0) (height 
             enough = p.enough;
             value = a ∷ p.value;
             more = p.more;
-            is = subst (AllOf p.most (a ∷ p.value)) (sym (append_assoc g.pre h.pre (p.token ∷ p.more))) (longer p.most a p.value g.pre (h.pre ++ p.token ∷ p.more) p.enough g.is p.is);
+            is = subst (Every p.most (a ∷ p.value)) (sym (append_assoc g.pre h.pre (p.token ∷ p.more))) (longer p.most a p.value g.pre (h.pre ++ p.token ∷ p.more) p.enough g.is p.is);
           };
           again = again_on d a g.pre h.pre mid rest too_high (at g.pre mid e g.split) (taken g.pre g.is) h.split (λ s lk. g.again d s (omega arith) lk) h.again;
         }
@@ -202,10 +205,10 @@ module _ {A : Type 0} (spell : A → List Lexeme) (Fits : A → Type 0) (height 
   -- it is good where its member is
   pub good_repeated : (looks : Looks goes_on) (ends : goes_on [] ≡ false) (long : (a : A) → Fits a → 1 ≤ length (spell a)) (d : ℕ)
       (good : (ts : List Lexeme) → goes_on ts ≡ true → Good (Spelled spell Fits height) F member d ts) (ts : List Lexeme)
-      → Good AllOf (Stopped goes_on) (all_of goes_on member) d ts
+      → Good (AllOf spell Fits height) (Stopped goes_on) (all_of goes_on member) d ts
   good_repeated looks ends long d good ts = record { outcome = of (repeated goes_on (member d) (length ts) ts) (claim looks ends long d good (length ts) ts (omega arith) (length ts) (omega arith)) }
     where
-      of : (r : Read (List A)) → Answered looks ends long d good ts r → Outcome AllOf (Stopped goes_on) (all_of goes_on member) d ts r
+      of : (r : Read (List A)) → Answered looks ends long d good ts r → Outcome Every (Stopped goes_on) (all_of goes_on member) d ts r
       of (ok all rest) g = record { pre = g.pre; split = g.split; is = g.is; next = g.next; again = λ m r le lk. g.again m le (length (g.pre ++ r)) r (omega arith) lk }
       of (unexpected rest) g = record { pre = g.pre; split = g.split; begun = g.begun; again = λ m r le lk. g.again m le (length (g.pre ++ r)) r (omega arith) lk }
       of (too_high rest) g = record { pre = g.pre; split = g.split; begun = g.begun; past = g.past; again = λ r lk. g.again (length (g.pre ++ r)) r (omega arith) lk }

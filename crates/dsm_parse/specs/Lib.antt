@@ -7,3 +7,7 @@ pub mod Refusals
 pub mod Reading
 pub mod Tokens
 pub mod Gives
+pub mod Signs
+pub mod Expressions
+pub mod Statements
+pub mod Items

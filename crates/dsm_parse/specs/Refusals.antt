@@ -1,5 +1,5 @@
 -- Which token is refused, and why.
-use Rattle.std.specs.Prelude.{◌≡◌, ◌≤◌, ◌<◌, ⊤, ℕ, zero, suc, List, [], ◌∷◌, ◌++◌, length, take, Option, slice_get}
+use Rattle.std.specs.Prelude.{◌≡◌, ◌≤◌, ◌<◌, ◌⊎◌, ⊤, ℕ, zero, suc, List, [], ◌∷◌, ◌++◌, length, take, Option, slice_get}
 use Rattle.dsm_syntax.specs.declared.errors.ProgErr.{ProgErr}
 use Rattle.dsm_syntax.specs.declared.errors.ProgErr.TheVariants as err
 use Rattle.dsm_syntax.specs.declared.errors.Which.TheVariants as which
@@ -32,6 +32,10 @@ pub record IsTooHigh (tokens : List Lexeme) (place : ℕ) : Type 0 where
   pub begun : IsBegun tokens place
   pub goes_on : (items : List Item) × GoesOn items (take place tokens) (slice_get tokens place)
   pub high : (items : List Item) → GoesOn items (take place tokens) (slice_get tokens place) → 64 < height_program items
+
+-- the token at this place, or the end, is the one that is refused
+abbrev pub IsStopped : List Lexeme → ℕ → Type 0
+IsStopped tokens place = (place ≤ length tokens) × (IsUnexpected tokens place ⊎ IsTooHigh tokens place)
 
 -- the line of the token at a place; behind the last one it is that of the last one, or the first line
 abbrev pub line_from : ℕ → List Token → ℕ → ℕ

@@ -25,6 +25,10 @@ abbrev pub is_name : Option Lexeme → Bool
 is_name (Some (named name)) = true
 is_name _ = false
 
+abbrev pub next_number : Option Lexeme → Option ℤ
+next_number (Some (numeral value)) = Some value
+next_number _ = None
+
 abbrev pub is_string : Option Lexeme → Bool
 is_string (Some (quoted held)) = true
 is_string _ = false

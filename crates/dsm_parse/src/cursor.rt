@@ -3,7 +3,7 @@
 ghost use Rattle.std.specs.Prelude.{◌≡◌, length, nat_eq, true, false, OnOk, OnErr};
 ghost use Rattle.dsm_parse.specs.Lexemes.{lexemes, is_placed_sign, is_placed_word};
 ghost use Rattle.dsm_parse.specs.Reading.{look, tail, is_sign, is_word};
-ghost use Rattle.dsm_parse.specs.Tokens.{read_name, read_number, read_string, is_name, is_string, plain_word, placed_word, placed_sign};
+ghost use Rattle.dsm_parse.specs.Tokens.{read_name, read_number, read_string, is_name, is_string, next_number, plain_word, placed_word, placed_sign};
 ghost use Rattle.dsm_parse.specs.Gives.{Gives};
 
 use crate::refusal::Refusal;
@@ -237,6 +237,22 @@ impl<'a> Cursor<'a> {
             text: Text::from_slice(alloc, text.as_slice())?,
             line: *line,
         })
+    }
+
+    /// The number that comes next, if one does.
+    pub fn next_number(&self) -> Option<i64>
+        ensures { result ≡ next_number (look self.now) }
+    {
+        match self.left {
+            [
+                Token {
+                    kind: TokenKind::Number(number),
+                    ..
+                },
+                ..
+            ] => Some(*number),
+            _ => None,
+        }
     }
 
     /// Takes a number that has to come next.

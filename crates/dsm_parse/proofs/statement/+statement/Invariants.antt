@@ -1,0 +1,23 @@
+use Rattle.std.proofs.Common.{length, ◌*◌, ◌+◌}
+use Rattle.dsm_parse.proofs.statement.+statement.Given as goal
+
+abbrev pub decreases-statement : goal.decreases-statement
+decreases-statement l = l.most * 4
+
+abbrev pub decreases-statement_by : goal.decreases-statement_by
+decreases-statement_by l = l.below * 4 + 3
+
+abbrev pub decreases-statements : goal.decreases-statements
+decreases-statements l = l.most * 4 + 1
+
+abbrev pub decreases-branches : goal.decreases-branches
+decreases-branches l = l.below * 4 + 2
+
+abbrev pub decreases-while_loop : goal.decreases-while_loop
+decreases-while_loop l = l.below * 4 + 2
+
+abbrev pub decreases-for_loop : goal.decreases-for_loop
+decreases-for_loop l = l.below * 4 + 2
+
+abbrev pub decreases-statements-loop-alloc : goal.decreases-statements-loop-alloc
+decreases-statements-loop-alloc l = length l.cursor
