@@ -1,5 +1,5 @@
 -- An `if`, with and without an `else`, and loops.
-use Rattle.std.proofs.Common.{◌≡◌, ◌≤◌, ◌<◌, ℕ, zero, suc, ◌+◌, max, Bool, true, false, cond, List, [], ◌∷◌, ◌++◌, Option, Some, None, refl, sym, ap, ◌∙◌, subst, arith, append_assoc}
+use Rattle.std.proofs.Common.{◌≡◌, ◌≤◌, ℕ, ◌+◌, Bool, true, false, List, [], ◌∷◌, ◌++◌, Some, refl, sym, ap, ◌∙◌, arith}
 use Rattle.std.proofs.lemmas.List.{append-nil}
 use Rattle.dsm_syntax.specs.declared.sign.Sign.{Sign}
 use Rattle.dsm_syntax.specs.declared.word.Word.{Word}
@@ -9,12 +9,12 @@ use Rattle.dsm_parse.specs.declared.kind.StatementKind.{StatementKind}
 use Rattle.dsm_parse.specs.Lexemes.{Lexeme, word, sign}
 use Rattle.dsm_parse.specs.Grammar.{spell_test, spell_statement, Fits, FitsStatement, ends_open}
 use Rattle.dsm_parse.specs.Heights.{height, height_statement}
-use Rattle.dsm_parse.specs.Reading.{ok, and_then, look, tail, is_word}
+use Rattle.dsm_parse.specs.Reading.{look, tail, is_word}
 use Rattle.dsm_parse.specs.Statements.{deeper, Head, if_of, else_of, while_of, for_of, statement}
 use Rattle.dsm_parse.proofs.Fronts.{is_word_look}
-use Rattle.dsm_parse.proofs.Good.{Language, Spelled, Begins, Good, good_ok, good_weaken, good_map, good_next, good_if, good_behind_word}
+use Rattle.dsm_parse.proofs.Good.{Good, good_ok, good_weaken, good_map, good_next, good_if, good_behind_word}
 use Rattle.dsm_parse.proofs.Firsts.{StatementOf, NoElse, example}
-use Rattle.dsm_parse.proofs.Heads.{test_good, spell_head, spell_head_on, FitsHead, height_head, head_good}
+use Rattle.dsm_parse.proofs.Heads.{test_good, spell_head, spell_head_on, head_good}
 use Rattle.dsm_parse.proofs.Simples.{Above, good_deeper}
 
 -- the statements a level lower are read as the grammar has them

@@ -1,21 +1,20 @@
 -- What a statement is, by its first token.
-use Rattle.std.proofs.Common.{◌≡◌, ◌≤◌, ◌⊎◌, inl, inr, ℕ, zero, suc, pos, max, Bool, true, false, not, List, [], ◌∷◌, ◌++◌, length, length-append, Option, Some, None, refl, sym, ap, ◌∙◌, subst, arith}
+use Rattle.std.proofs.Common.{◌≡◌, ◌≤◌, ◌⊎◌, inl, inr, ℕ, zero, suc, pos, Bool, true, false, List, [], ◌∷◌, ◌++◌, length, length-append, Option, Some, None, refl, sym, ap, ◌∙◌, arith}
 use Rattle.dsm_syntax.specs.declared.sign.Sign.{Sign}
 use Rattle.dsm_syntax.specs.declared.word.Word.{Word}
 use Rattle.dsm_syntax.specs.declared.tree.Name.{Name}
-use Rattle.dsm_syntax.specs.Tree.{Place, single, Expression, number, ForStart, start_nothing, Statement, Statements}
+use Rattle.dsm_syntax.specs.Tree.{single, Expression, number, start_nothing, Statement}
 use Rattle.dsm_syntax.specs.Tree as t
 use Rattle.dsm_parse.specs.declared.kind.StatementKind.{StatementKind}
-use Rattle.dsm_parse.specs.Lexemes.{Lexeme, named, numeral, quoted, word, sign, word_at, sign_at}
-use Rattle.dsm_parse.specs.Grammar.{spell, spell_statement, Fits, FitsStatement, ends_open}
-use Rattle.dsm_parse.specs.Heights.{height, height_statement}
-use Rattle.dsm_parse.specs.Reading.{Read, ok, unexpected, too_high, Reader, and_then, look, tail, is_sign, is_word, ended_by}
+use Rattle.dsm_parse.specs.Lexemes.{Lexeme, named, numeral, quoted, word, sign, word_at}
+use Rattle.dsm_parse.specs.Grammar.{spell, spell_statement, FitsStatement, ends_open}
+use Rattle.dsm_parse.specs.Heights.{height_statement}
+use Rattle.dsm_parse.specs.Reading.{unexpected, too_high, and_then, look, is_word, ended_by}
 use Rattle.dsm_parse.specs.Signs.{begins_expression}
 use Rattle.dsm_parse.specs.Expressions.{expression}
-use Rattle.dsm_parse.specs.Statements.{kind, no_statement, expression_statement, statement_by, statement}
-use Rattle.dsm_parse.proofs.Fronts.{cons_of}
-use Rattle.dsm_parse.proofs.Good.{Language, Follow, Spelled, Begins, BeginsPast, Good, good_after}
-use Rattle.dsm_parse.proofs.Beginnings.{begun_with, expression_high, spell_begins, spell_long}
+use Rattle.dsm_parse.specs.Statements.{kind, no_statement, statement_by, statement}
+use Rattle.dsm_parse.proofs.Good.{Language, Follow, Spelled}
+use Rattle.dsm_parse.proofs.Beginnings.{begun_with, expression_high, spell_long}
 use Rattle.dsm_parse.proofs.Values.{expression_refused}
 
 -- Words.
@@ -84,17 +83,6 @@ pub record StartsWith (x : Lexeme) : Type 0 where
   pub is : spell_statement value ≡ x ∷ more
   pub fits : FitsStatement value
 
-pub past_token : {d : ℕ} (x : Lexeme) → StartsWith x → BeginsPast StatementOf d [] (Some x)
-past_token {d} x s = record {
-  token = x;
-  next_is = refl;
-  most = max d (height_statement s.value);
-  enough = omega arith;
-  value = s.value;
-  more = s.more;
-  is = record { is = s.is; fits = s.fits; low = omega arith };
-}
-
 abbrev nameless : Name
 nameless = record { text = []; line = 0 }
 
@@ -103,10 +91,6 @@ zero_test = sign Sign.ParenOpen ∷ numeral (pos 0) ∷ sign Sign.ParenClose ∷
 
 abbrev nameless_lock : List Lexeme
 nameless_lock = sign Sign.ParenOpen ∷ named nameless ∷ sign Sign.ParenClose ∷ sign Sign.Semicolon ∷ []
-
-abbrev IsPlain : StatementKind → Bool
-IsPlain StatementKind.Expression = false
-IsPlain _ = true
 
 -- of each kind that is no expression
 abbrev pub Example : StatementKind → Type 0

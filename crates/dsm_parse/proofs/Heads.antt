@@ -1,26 +1,26 @@
 -- What stands in parentheses in a statement.
-use Rattle.std.proofs.Common.{◌≡◌, ◌≤◌, ◌<◌, ℕ, zero, suc, max, Bool, true, false, cond, List, [], ◌∷◌, ◌++◌, Option, Some, None, IfSome, refl, sym, ap, ◌∙◌, subst, arith, append_assoc}
+use Rattle.std.proofs.Common.{◌≡◌, ◌≤◌, ℕ, max, true, false, cond, List, [], ◌∷◌, ◌++◌, Option, Some, None, IfSome, refl, sym, ap, ◌∙◌, arith, append_assoc}
 use Rattle.std.proofs.lemmas.List.{append-nil}
 use Rattle.dsm_syntax.specs.declared.sign.Sign.{Sign}
 use Rattle.dsm_syntax.specs.declared.word.Word.{Word}
-use Rattle.dsm_syntax.specs.Tree.{Expression, number, Variable, ForStart, start_nothing, start_variables, start_expression, Part, part_text, part_value}
-use Rattle.dsm_parse.specs.Lexemes.{Lexeme, named, quoted, word, sign, sign_at}
-use Rattle.dsm_parse.specs.Grammar.{spell, spell_option, spell_variables, spell_start, spell_test, spell_part, spell_list, Fits, FitsVariable, FitsStart, FitsPart, Listed}
-use Rattle.dsm_parse.specs.Heights.{height, highest, height_option, height_variable, height_start, height_part}
-use Rattle.dsm_parse.specs.Reading.{Read, ok, unexpected, too_high, Reader, and_then, look, tail, is_sign, is_word, after_sign, ended_by, list_of}
+use Rattle.dsm_syntax.specs.Tree.{Expression, ForStart, start_nothing, start_variables, start_expression, Part, part_text, part_value}
+use Rattle.dsm_parse.specs.Lexemes.{Lexeme, quoted, sign}
+use Rattle.dsm_parse.specs.Grammar.{spell, spell_option, spell_start, spell_test, spell_part, spell_list, Fits, FitsStart, FitsPart, Listed}
+use Rattle.dsm_parse.specs.Heights.{height, highest, height_option, height_start, height_part}
+use Rattle.dsm_parse.specs.Reading.{ok, Reader, and_then, look, is_sign, is_word, after_sign, ended_by, list_of}
 use Rattle.dsm_parse.specs.Tokens.{read_string, is_string}
 use Rattle.dsm_parse.specs.Signs.{begins_expression}
 use Rattle.dsm_parse.specs.Expressions.{expression}
 use Rattle.dsm_parse.specs.Statements.{unless_sign, variables, part, test, argument, start, Head, head}
-use Rattle.dsm_parse.proofs.Fronts.{Looks, is_sign_look, is_word_look, of_word}
-use Rattle.dsm_parse.proofs.Good.{Language, Follow, Free, Spelled, Begins, Good, good_ok, good_as, good_weaken, good_map, good_next, good_if, good_sign, good_end}
+use Rattle.dsm_parse.proofs.Fronts.{Looks, is_sign_look, is_word_look}
+use Rattle.dsm_parse.proofs.Good.{Language, Follow, Free, Spelled, Good, good_ok, good_weaken, good_map, good_next, good_if, good_sign, good_end}
 use Rattle.dsm_parse.proofs.Singles.{single_string, good_single}
-use Rattle.dsm_parse.proofs.Lists.{OptionOf, list_reads}
+use Rattle.dsm_parse.proofs.Lists.{list_reads}
 use Rattle.dsm_parse.proofs.Expressions.{expression_good}
 use Rattle.dsm_parse.proofs.Beginnings.{spell_begins, no_sign, no_word, no_string}
 use Rattle.dsm_parse.proofs.Complete.{Ends, ends_paren, ends_semicolon, ends_comma, expression_reads}
 use Rattle.dsm_parse.proofs.Values.{good_value, good_unless}
-use Rattle.dsm_parse.proofs.Variables.{VariablesOf, variables_good, variables_reads}
+use Rattle.dsm_parse.proofs.Variables.{variables_good, variables_reads}
 
 -- A condition.
 

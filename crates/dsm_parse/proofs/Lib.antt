@@ -26,4 +26,5 @@ pub mod Spellings
 pub mod Exact
 pub mod Soundness
 pub mod Whole
+pub mod Rounds
 pub mod Outcomes

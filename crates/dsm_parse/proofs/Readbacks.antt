@@ -1,29 +1,24 @@
 -- Each statement that the grammar has is read from its spelling.
-use Rattle.std.proofs.Common.{◌≡◌, ◌≤◌, ◌<◌, ℕ, zero, suc, ◌+◌, max, Bool, true, false, not, cond, List, [], ◌∷◌, ◌++◌, length, length-append, flat_map, Option, Some, None, IfSome, refl, sym, ap, ◌∙◌, subst, arith, append_assoc}
-use Rattle.std.specs.List.{AllByRecursion}
+use Rattle.std.proofs.Common.{◌≡◌, ◌≤◌, ℕ, zero, suc, ◌+◌, true, false, not, cond, List, [], ◌∷◌, ◌++◌, length, length-append, Option, IfSome, refl, sym, ap, ◌∙◌, subst, arith, append_assoc}
 use Rattle.dsm_syntax.specs.declared.sign.Sign.{Sign}
 use Rattle.dsm_syntax.specs.declared.word.Word.{Word}
 use Rattle.dsm_syntax.specs.declared.tree.Name.{Name}
-use Rattle.dsm_syntax.specs.Tree.{Place, Expression, Variable, ForStart, Part, Statement, Statements}
+use Rattle.dsm_syntax.specs.Tree.{Place, Expression, Variable, Part, Statement, Statements}
 use Rattle.dsm_syntax.specs.Tree as t
-use Rattle.dsm_parse.specs.declared.kind.StatementKind.{StatementKind}
-use Rattle.dsm_parse.specs.Lexemes.{Lexeme, named, word, sign, word_at, sign_at}
-use Rattle.dsm_parse.specs.Grammar.{spell, spell_option, spell_name, spell_place, spell_variables, spell_part, spell_list, spell_test, spell_statement, spell_statements, spell_body, Fits, FitsVariable, FitsPlace, FitsPart, FitsStatement, FitStatements, Listed, ends_open}
+use Rattle.dsm_parse.specs.Lexemes.{Lexeme, word, sign, word_at}
+use Rattle.dsm_parse.specs.Grammar.{spell, spell_option, spell_place, spell_variables, spell_part, spell_list, spell_test, spell_statement, spell_statements, Fits, FitsVariable, FitsPlace, FitsPart, FitsStatement, FitStatements, Listed, ends_open}
 use Rattle.dsm_parse.specs.Heights.{height, height_option, height_place, height_variable, height_part, height_statement, height_statements, highest}
-use Rattle.dsm_parse.specs.Reading.{Read, ok, unexpected, too_high, Reader, and_then, look, tail, is_sign, is_word, ended_by, repeated, list_of}
+use Rattle.dsm_parse.specs.Reading.{ok, Reader, and_then, look, tail, is_sign, is_word, ended_by, repeated, list_of}
 use Rattle.dsm_parse.specs.Tokens.{read_name}
-use Rattle.dsm_parse.specs.Signs.{begins_expression}
 use Rattle.dsm_parse.specs.Expressions.{expression, place}
-use Rattle.dsm_parse.specs.Statements.{unless_sign, variables, part, test, argument, Head, head, lock, goes_on, in_order, statements, kind, if_of, else_of, while_of, for_of, statement_by, statement, body}
+use Rattle.dsm_parse.specs.Statements.{variables, part, test, argument, Head, lock, goes_on, in_order, statements, if_of, else_of, while_of, for_of, statement_by, statement, body}
 use Rattle.dsm_parse.proofs.Repeats.{stops, turns}
 use Rattle.dsm_parse.proofs.Beginnings.{spell_begins, no_sign, no_word}
-use Rattle.dsm_parse.proofs.Complete.{ends_paren, ends_semicolon, expression_reads, place_reads}
+use Rattle.dsm_parse.proofs.Complete.{ends_semicolon, expression_reads, place_reads}
 use Rattle.dsm_parse.proofs.Expressions.{height_pos, height_place_pos}
-use Rattle.dsm_parse.proofs.Firsts.{NoElse, no_kind, statement_long, height_statement_pos}
+use Rattle.dsm_parse.proofs.Firsts.{no_kind, statement_long, height_statement_pos}
 use Rattle.dsm_parse.proofs.Variables.{deeper_goes, variables_reads}
 use Rattle.dsm_parse.proofs.Heads.{test_reads, spell_argument, argument_reads, parts_reads, unless_reads, spell_head, spell_head_on, FitsHead, height_head, head_reads}
-use Rattle.dsm_parse.proofs.Blocks.{spell_in_order, height_in_order, goes_on_look}
-use Rattle.dsm_parse.proofs.Statements.{statement_good}
 
 -- What may come behind a statement.
 

@@ -1,20 +1,19 @@
 -- Statements with no statement in them.
-use Rattle.std.proofs.Common.{◌≡◌, ◌≤◌, ◌<◌, ◌⊎◌, inl, inr, ℕ, zero, suc, ◌+◌, max, Bool, true, false, cond, List, [], ◌∷◌, ◌++◌, Option, Some, None, refl, sym, ap, ◌∙◌, subst, arith, append_assoc}
+use Rattle.std.proofs.Common.{◌≡◌, ◌≤◌, ◌<◌, ◌⊎◌, inl, inr, ℕ, suc, ◌+◌, max, Bool, true, false, cond, List, [], ◌∷◌, ◌++◌, Option, Some, refl, sym, ap, ◌∙◌, subst, arith}
 use Rattle.std.specs.Prelude.{nat_lt}
 use Rattle.std.proofs.lemmas.Bool.{le-ltb, cases_lt}
 use Rattle.dsm_syntax.specs.declared.sign.Sign.{Sign}
 use Rattle.dsm_syntax.specs.declared.word.Word.{Word}
-use Rattle.dsm_syntax.specs.declared.tree.Name.{Name}
-use Rattle.dsm_syntax.specs.Tree.{Place, Expression, Variable, Statement, Statements}
+use Rattle.dsm_syntax.specs.Tree.{Place, Statement}
 use Rattle.dsm_syntax.specs.Tree as t
 use Rattle.dsm_parse.specs.declared.kind.StatementKind.{StatementKind}
-use Rattle.dsm_parse.specs.Lexemes.{Lexeme, named, word, sign, word_at, sign_at}
-use Rattle.dsm_parse.specs.Grammar.{spell, spell_name, spell_place, spell_statement, FitsPlace, FitsStatement, ends_open}
+use Rattle.dsm_parse.specs.Lexemes.{Lexeme, word, sign, word_at}
+use Rattle.dsm_parse.specs.Grammar.{spell_name, spell_place, spell_statement, FitsPlace, FitsStatement, ends_open}
 use Rattle.dsm_parse.specs.Heights.{height_place, height_statement}
-use Rattle.dsm_parse.specs.Reading.{Read, ok, unexpected, too_high, Reader, and_then, look, tail, is_sign, is_word, ended_by, list_of}
+use Rattle.dsm_parse.specs.Reading.{ok, too_high, Reader, and_then, look, tail, ended_by, list_of}
 use Rattle.dsm_parse.specs.Tokens.{read_name}
 use Rattle.dsm_parse.specs.Expressions.{expression, place}
-use Rattle.dsm_parse.specs.Statements.{deeper, unless_sign, variable, variables, part, argument, lock, barrier, print, declaration, expression_statement, return_at}
+use Rattle.dsm_parse.specs.Statements.{deeper, variable, variables, argument, lock, barrier, print, declaration, expression_statement, return_at}
 use Rattle.dsm_parse.proofs.Fronts.{cons_of}
 use Rattle.dsm_parse.proofs.Good.{Language, Follow, Free, Spelled, Begins, BeginsPast, Good, good_ok, good_too_high, good_as, good_weaken, good_map, good_next, good_after, good_end}
 use Rattle.dsm_parse.proofs.Singles.{single_name, good_alone}

@@ -1,5 +1,5 @@
 -- Statements are read as their grammar has them.
-use Rattle.std.proofs.Common.{◌≡◌, ◌≤◌, ℕ, zero, suc, List, Option, Some, refl, ap, arith}
+use Rattle.std.proofs.Common.{◌≤◌, ℕ, zero, suc, List, refl, ap, arith}
 use Rattle.dsm_parse.specs.declared.kind.StatementKind.{StatementKind}
 use Rattle.dsm_parse.specs.Lexemes.{Lexeme}
 use Rattle.dsm_parse.specs.Reading.{look}

@@ -1,18 +1,18 @@
 -- An expression in a statement, where there may be no level for one.
-use Rattle.std.proofs.Common.{◌≡◌, ◌≤◌, ℕ, zero, suc, Bool, true, false, List, [], ◌∷◌, ◌++◌, Option, Some, None, refl, sym, ap, ◌∙◌, subst, arith}
+use Rattle.std.proofs.Common.{◌≡◌, ◌≤◌, ℕ, zero, suc, Bool, true, false, List, [], ◌++◌, Option, Some, None, refl, sym, ap, ◌∙◌, subst, arith}
 use Rattle.std.proofs.lemmas.List.{append-nil}
 use Rattle.dsm_syntax.specs.declared.sign.Sign.{Sign}
 use Rattle.dsm_syntax.specs.Tree.{Expression}
 use Rattle.dsm_parse.specs.declared.operator.Lead.{Lead}
-use Rattle.dsm_parse.specs.Lexemes.{Lexeme, sign}
-use Rattle.dsm_parse.specs.Grammar.{spell, Fits, spell_option}
+use Rattle.dsm_parse.specs.Lexemes.{Lexeme}
+use Rattle.dsm_parse.specs.Grammar.{spell, Fits}
 use Rattle.dsm_parse.specs.Heights.{height}
-use Rattle.dsm_parse.specs.Reading.{Read, ok, unexpected, too_high, Reader, and_then, look, is_sign, ended_by}
+use Rattle.dsm_parse.specs.Reading.{unexpected, Reader, and_then, look, is_sign}
 use Rattle.dsm_parse.specs.Signs.{lead, is_lead, begins_expression}
 use Rattle.dsm_parse.specs.Expressions.{below, expression, operand_by, climb}
 use Rattle.dsm_parse.specs.Statements.{unless_sign}
 use Rattle.dsm_parse.proofs.Fronts.{is_sign_look}
-use Rattle.dsm_parse.proofs.Good.{Language, Follow, Free, Spelled, Begins, BeginsPast, Good, good_ok, good_unexpected, good_too_high, good_as, good_next, good_if}
+use Rattle.dsm_parse.proofs.Good.{Language, Follow, Free, Begins, BeginsPast, Good, good_ok, good_unexpected, good_too_high, good_as, good_next, good_if}
 use Rattle.dsm_parse.proofs.Lists.{OptionOf}
 use Rattle.dsm_parse.proofs.Expressions.{expression_good}
 use Rattle.dsm_parse.proofs.Beginnings.{begun_with, expression_none, expression_high}

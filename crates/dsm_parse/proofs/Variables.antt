@@ -1,23 +1,20 @@
 -- Declarations of variables.
-use Rattle.std.proofs.Common.{◌≡◌, ◌≤◌, ◌<◌, ℕ, zero, suc, max, Bool, true, false, cond, List, [], ◌∷◌, ◌++◌, Option, Some, None, IfSome, refl, sym, ap, ◌∙◌, subst, arith, append_assoc}
+use Rattle.std.proofs.Common.{◌≡◌, ◌≤◌, ℕ, false, cond, List, [], ◌∷◌, ◌++◌, Option, Some, None, IfSome, refl, sym, ap, ◌∙◌, subst, arith}
 use Rattle.std.proofs.lemmas.Bool.{lt-ltb}
-use Rattle.std.proofs.lemmas.List.{append-nil}
 use Rattle.dsm_syntax.specs.declared.sign.Sign.{Sign}
 use Rattle.dsm_syntax.specs.declared.word.Word.{Word}
-use Rattle.dsm_syntax.specs.declared.tree.Name.{Name}
-use Rattle.dsm_syntax.specs.Tree.{Expression, Initial, Variable}
-use Rattle.dsm_parse.specs.Lexemes.{Lexeme, named, word, sign, sign_at}
-use Rattle.dsm_parse.specs.Grammar.{spell, spell_option, spell_initial, spell_variable, spell_variables, spell_list, Fits, FitsVariable, Listed}
+use Rattle.dsm_syntax.specs.Tree.{Initial, Variable}
+use Rattle.dsm_parse.specs.Lexemes.{Lexeme, named, word, sign_at}
+use Rattle.dsm_parse.specs.Grammar.{spell_option, spell_initial, spell_variable, spell_variables, Fits, FitsVariable, Listed}
 use Rattle.dsm_parse.specs.Heights.{height, highest, height_option, height_variable}
 use Rattle.dsm_parse.specs.Reading.{ok, unexpected, too_high, Reader, and_then, look, tail, is_sign, is_word, list_of}
-use Rattle.dsm_parse.specs.Tokens.{read_name}
 use Rattle.dsm_parse.specs.Signs.{infix_of}
 use Rattle.dsm_parse.specs.Expressions.{expression}
 use Rattle.dsm_parse.specs.Statements.{deeper, assign_line, initial_at, initial, variable, variables}
-use Rattle.dsm_parse.proofs.Fronts.{cons_of, is_word_look}
-use Rattle.dsm_parse.proofs.Good.{Language, Follow, Free, Spelled, Begins, Good, good_ok, good_as, good_weaken, good_map, good_next, good_after, good_word}
+use Rattle.dsm_parse.proofs.Fronts.{cons_of}
+use Rattle.dsm_parse.proofs.Good.{Language, Free, Spelled, Good, good_ok, good_as, good_weaken, good_map, good_after, good_word}
 use Rattle.dsm_parse.proofs.Singles.{single_name, good_single}
-use Rattle.dsm_parse.proofs.Lists.{OptionOf, ListOf, good_list, list_reads}
+use Rattle.dsm_parse.proofs.Lists.{OptionOf, good_list, list_reads}
 use Rattle.dsm_parse.proofs.Expressions.{expression_good}
 use Rattle.dsm_parse.proofs.Complete.{Ends, ends_comma, expression_reads}
 

@@ -203,7 +203,7 @@ impl<'a> Cursor<'a> {
         }
     }
 
-    /// Passes over a sign that has to come next, one whose line no tree has.
+    /// Passes over a sign that has to come next, one whose line no tree has. `Unexpected` comes where it doesn't.
     pub fn expect(&mut self, sign: Sign) -> Result<(), Refusal>
         requires { is_placed_sign sign ≡ false }
         ensures taken { OnOk result ((is_sign sign self.old ≡ true) × (self.new ≡ tail self.old)) }
@@ -217,7 +217,7 @@ impl<'a> Cursor<'a> {
         Ok(())
     }
 
-    /// Takes a name that has to come next.
+    /// Takes a name that has to come next. `Unexpected` comes where none does, `Memory` for want of memory.
     pub fn name(&mut self, alloc: Global) -> Result<Name, Refusal>
         ensures { Gives (λ name. name) (read_name self.old) result self.new }
     {
@@ -255,7 +255,7 @@ impl<'a> Cursor<'a> {
         }
     }
 
-    /// Takes a number that has to come next.
+    /// Takes a number that has to come next. `Unexpected` comes where none does.
     pub fn number(&mut self) -> Result<i64, Refusal>
         ensures { Gives (λ number. number) (read_number self.old) result self.new }
     {
@@ -273,7 +273,7 @@ impl<'a> Cursor<'a> {
         Ok(*number)
     }
 
-    /// Takes a string that has to come next.
+    /// Takes a string that has to come next. `Unexpected` comes where none does, `Memory` for want of memory.
     pub fn string(&mut self, alloc: Global) -> Result<Text, Refusal>
         ensures { Gives (λ held. held) (read_string self.old) result self.new }
     {

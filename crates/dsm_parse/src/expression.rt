@@ -25,13 +25,16 @@ const CHOICE: u8 = 1;
 /// What may stand behind an operator that has one side.
 const UNARY: u8 = 12;
 
-/// Reads an expression that has at most so many nodes on a way down.
+/// Reads an expression that has at most so many nodes on a way down. The cursor is left at a token that is refused:
+///
+/// - `Unexpected` comes for the first token with which no expression goes on.
+/// - `TooHigh` comes for the first one with which only higher expressions do.
+/// - `Memory` comes for want of memory.
 pub fn expression(
     alloc: Global,
     cursor: &mut Cursor<'_>,
     most: u32,
 ) -> Result<Measured<Expr>, Refusal>
-    requires { most < 2 ^ 28 }
     ensures read { Gives (λ e. view e.tree) (reader.expression most cursor.old) result cursor.new }
     ensures height { IfOk result (λ e. e.height ≡ height (view e.tree)) }
     ensures low { IfOk result (λ e. e.height ≤ most) }
@@ -71,7 +74,6 @@ fn at_least(
     most: u32,
     least: u8,
 ) -> Result<Measured<Expr>, Refusal>
-    requires { most < 2 ^ 28 }
     ensures read { Gives (λ e. view e.tree) ((below most).at_least least cursor.old) result cursor.new }
     ensures height { IfOk result (λ e. e.height ≡ height (view e.tree)) }
     ensures low { IfOk result (λ e. e.height ≤ most) }
@@ -83,10 +85,9 @@ fn at_least(
     climb(alloc, cursor, depth, least, first)
 }
 
-/// Reads a place that has at most so many nodes on a way down.
+/// Reads a place that has at most so many nodes on a way down, with the refusals of an expression.
 #[cycle(expression)]
 pub fn place(alloc: Global, cursor: &mut Cursor<'_>, most: u32) -> Result<Measured<Place>, Refusal>
-    requires { most < 2 ^ 28 }
     ensures read { Gives (λ p. view_place p.tree) (reader.place most cursor.old) result cursor.new }
     ensures height { IfOk result (λ p. p.height ≡ height_place (view_place p.tree)) }
     ensures low { IfOk result (λ p. p.height ≤ most) }
@@ -106,7 +107,7 @@ fn place_behind(
     depth: u32,
     name: Name,
 ) -> Result<Measured<Place>, Refusal>
-    requires { depth < 2 ^ 28 }
+    requires { depth + 1 < 2 ^ 32 }
     ensures read { Gives (λ p. view_place p.tree) (reader.place_behind depth (below depth) name cursor.old) result cursor.new }
     ensures height { IfOk result (λ p. p.height ≡ height_place (view_place p.tree)) }
     ensures low { IfOk result (λ p. p.height ≤ depth + 1) }
@@ -132,7 +133,7 @@ fn stepped(
     depth: u32,
     place: Measured<Place>,
 ) -> Result<Measured<Expr>, Refusal>
-    requires depth { depth < 2 ^ 28 }
+    requires depth { depth + 1 < 2 ^ 32 }
     requires height { place.height ≡ height_place (view_place place.tree) }
     requires low { place.height ≤ depth + 1 }
     ensures read { Gives (λ e. view e.tree) (reader.stepped depth (below depth) (view_place place.tree) cursor.old) result cursor.new }
@@ -156,7 +157,7 @@ fn stepped(
 /// Reads what stands between operators that have two sides.
 #[cycle(expression)]
 fn operand(alloc: Global, cursor: &mut Cursor<'_>, depth: u32) -> Result<Measured<Expr>, Refusal>
-    requires { depth < 2 ^ 28 }
+    requires { depth + 1 < 2 ^ 32 }
     ensures read { Gives (λ e. view e.tree) (reader.operand depth (below depth) cursor.old) result cursor.new }
     ensures height { IfOk result (λ e. e.height ≡ height (view e.tree)) }
     ensures low { IfOk result (λ e. e.height ≤ depth + 1) }
@@ -217,7 +218,7 @@ fn named(
     depth: u32,
     name: Name,
 ) -> Result<Measured<Expr>, Refusal>
-    requires { depth < 2 ^ 28 }
+    requires { depth + 1 < 2 ^ 32 }
     ensures read { Gives (λ e. view e.tree) (reader.named_behind depth (below depth) name cursor.old) result cursor.new }
     ensures height { IfOk result (λ e. e.height ≡ height (view e.tree)) }
     ensures low { IfOk result (λ e. e.height ≤ depth + 1) }
@@ -249,7 +250,7 @@ fn arguments(
     cursor: &mut Cursor<'_>,
     depth: u32,
 ) -> Result<Measured<Vec<Expr>>, Refusal>
-    requires depth { depth < 2 ^ 28 }
+    requires depth { depth + 1 < 2 ^ 32 }
     requires over { 1 ≤ depth }
     ensures read { Gives (λ list. map view list.tree.items) (list_of ((below depth).at_least 0) cursor.old) result cursor.new }
     ensures height { IfOk result (λ list. list.height ≡ height_arguments (expressions (map view list.tree.items))) }
@@ -277,7 +278,7 @@ fn climb(
     least: u8,
     first: Measured<Expr>,
 ) -> Result<Measured<Expr>, Refusal>
-    requires depth { depth < 2 ^ 28 }
+    requires depth { depth + 1 < 2 ^ 32 }
     requires height { first.height ≡ height (view first.tree) }
     requires low { first.height ≤ depth + 1 }
     ensures read { Gives (λ e. view e.tree) (reader.climb depth (below depth) depth least (view first.tree) cursor.old) result cursor.new }
@@ -305,7 +306,7 @@ fn operation(
     line: u32,
     left: Measured<Expr>,
 ) -> Result<Measured<Expr>, Refusal>
-    requires depth { depth < 2 ^ 28 }
+    requires depth { depth + 1 < 2 ^ 32 }
     requires height { left.height ≡ height (view left.tree) }
     requires low { left.height ≤ depth }
     ensures read { Gives (λ e. view e.tree) (reader.operation depth (below depth) (Some (operator, line)) (view left.tree) cursor.old) result cursor.new }
@@ -348,7 +349,7 @@ fn choice(
     line: u32,
     test: Measured<Expr>,
 ) -> Result<Measured<Expr>, Refusal>
-    requires depth { depth < 2 ^ 28 }
+    requires depth { depth + 1 < 2 ^ 32 }
     requires height { test.height ≡ height (view test.tree) }
     requires low { test.height ≤ depth }
     ensures read { Gives (λ e. view e.tree) (reader.operation depth (below depth) (Some (Infix.Question, line)) (view test.tree) cursor.old) result cursor.new }

@@ -21,3 +21,6 @@ mod variable;
 
 pub use laws::{one_tree, refused_for_good, tree_or_refusal};
 pub use program::parse;
+
+#[cfg(test)]
+mod tests;

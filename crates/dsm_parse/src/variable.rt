@@ -1,6 +1,6 @@
 //! Declarations of variables.
 
-ghost use Rattle.std.specs.Prelude.{◌≡◌, ◌<◌, ◌^◌, map};
+ghost use Rattle.std.specs.Prelude.{◌≡◌, ◌≤◌, ◌<◌, ◌^◌, map};
 ghost use Rattle.dsm_syntax.specs.Views.{option_view, view_initial, view_variable};
 ghost use Rattle.dsm_parse.specs.Gives.{Gives};
 ghost use Rattle.dsm_parse.specs.Reading.{look, list_of};
@@ -47,7 +47,8 @@ fn variable(alloc: Global, cursor: &mut Cursor<'_>, most: u32) -> Result<Variabl
 
 /// Variables, each after a comma.
 fn list(alloc: Global, cursor: &mut Cursor<'_>, most: u32) -> Result<Vec<Variable>, Refusal>
-    requires { most < 2 ^ 28 }
+    requires some { 1 ≤ most }
+    requires fits { most < 2 ^ 28 }
     ensures { Gives (λ all. map view_variable all.items) (list_of (reader.variable most) cursor.old) result cursor.new }
 {
     let mut all = Vec::new(alloc);

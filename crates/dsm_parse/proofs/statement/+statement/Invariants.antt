@@ -1,4 +1,8 @@
-use Rattle.std.proofs.Common.{length, ◌*◌, ◌+◌}
+use Rattle.std.proofs.Common.{◌≡◌, map, length, ◌*◌, ◌+◌}
+use Rattle.dsm_syntax.specs.Views.{view_statement}
+use Rattle.dsm_parse.specs.Reading.{gathered}
+use Rattle.dsm_parse.specs.Statements as reader
+use Rattle.dsm_parse.proofs.Repeats.{all_of}
 use Rattle.dsm_parse.proofs.statement.+statement.Given as goal
 
 abbrev pub decreases-statement : goal.decreases-statement
@@ -18,6 +22,10 @@ decreases-while_loop l = l.below * 4 + 2
 
 abbrev pub decreases-for_loop : goal.decreases-for_loop
 decreases-for_loop l = l.below * 4 + 2
+
+abbrev pub invariant-statements-loop-alloc : goal.invariant-statements-loop-alloc
+invariant-statements-loop-alloc l =
+    all_of reader.goes_on reader.statement l.most l.fn.cursor ≡ gathered (map view_statement l.all.items) (all_of reader.goes_on reader.statement l.most) l.cursor
 
 abbrev pub decreases-statements-loop-alloc : goal.decreases-statements-loop-alloc
 decreases-statements-loop-alloc l = length l.cursor
