@@ -15,7 +15,7 @@ overlap-here piece cell end low high before =
     let same : max cell piece.first.0 ≡ cell = omega arith in
     let last = min end (piece.first.0 + piece.count) in
     ap (λ start. if ltb start last then Some start else None) same
-        ∙ ap (λ test. if test then Some cell else None) (lt-ltb cell last (omega arith))
+    ∙ ap (λ test. if test then Some cell else None) (lt-ltb cell last (omega arith))
 
 overlap-none : (piece : Piece) (cell end : ℕ) → min end (piece.first.0 + piece.count) ≤ max cell piece.first.0 → overlap piece cell end ≡ None
 overlap-none piece cell end h =
@@ -31,10 +31,11 @@ pub first_bound-one : (piece : Piece) (cell count : ℕ) → first_bound (piece 
 first_bound-one piece cell zero = sym (overlap-none piece cell (cell + 0) (omega arith))
 first_bound-one piece cell (suc count) =
     ap (λ here. if here then Some cell else first_bound (piece ∷ []) (cell + 1) count) (of_one (has_cell cell piece) piece)
-        ∙ by (leb piece.first.0 cell) (ltb cell (piece.first.0 + piece.count)) refl refl (first_bound-one piece (cell + 1) count)
+    ∙ by (leb piece.first.0 cell) (ltb cell (piece.first.0 + piece.count)) refl refl (first_bound-one piece (cell + 1) count)
   where
     shifted : cell + 1 + count ≡ cell + suc count
     shifted = omega arith
+
     by : (low high : Bool) → leb piece.first.0 cell ≡ low → ltb cell (piece.first.0 + piece.count) ≡ high
         → first_bound (piece ∷ []) (cell + 1) count ≡ overlap piece (cell + 1) (cell + 1 + count)
         → (if low && high then Some cell else first_bound (piece ∷ []) (cell + 1) count) ≡ overlap piece cell (cell + suc count)
@@ -54,7 +55,7 @@ above pieces cell (suc count) = by (is_some (piece_of pieces cell)) (first_bound
     by false None h = tt
     by false (Some found) h = omega (arith, h)
 
-piece_of-more : (pieces : List Piece) (piece : Piece) (cell : ℕ)
+pub piece_of-more : (pieces : List Piece) (piece : Piece) (cell : ℕ)
     → is_some (piece_of (pieces ++ piece ∷ []) cell) ≡ (is_some (piece_of pieces cell) || is_some (piece_of (piece ∷ []) cell))
 piece_of-more [] piece cell = refl
 piece_of-more (first ∷ pieces) piece cell = by (has_cell cell first) (piece_of-more pieces piece cell)
@@ -70,7 +71,7 @@ pub first_bound-more : (pieces : List Piece) (piece : Piece) (cell count : ℕ)
 first_bound-more pieces piece cell zero = refl
 first_bound-more pieces piece cell (suc count) =
     ap (λ here. if here then Some cell else first_bound (pieces ++ piece ∷ []) (cell + 1) count) (piece_of-more pieces piece cell)
-        ∙ by (is_some (piece_of pieces cell)) (is_some (piece_of (piece ∷ []) cell)) _ _ _ (first_bound-more pieces piece (cell + 1) count) (above pieces (cell + 1) count) (above (piece ∷ []) (cell + 1) count)
+    ∙ by (is_some (piece_of pieces cell)) (is_some (piece_of (piece ∷ []) cell)) _ _ _ (first_bound-more pieces piece (cell + 1) count) (above pieces (cell + 1) count) (above (piece ∷ []) (cell + 1) count)
   where
     by : (a b : Bool) (all left right : Option ℕ) → all ≡ earlier left right
         → IfSome left (λ found. cell + 1 ≤ found) → IfSome right (λ found. cell + 1 ≤ found)

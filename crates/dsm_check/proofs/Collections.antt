@@ -1,12 +1,11 @@
 -- Lists that are made one by one.
-use Rattle.std.proofs.Common.{◌≡◌, ℕ, Bool, ◌+◌, ◌<◌, drop, get_or, add-one, List, [], ◌∷◌, ◌++◌, length, suc, Result, Ok, Err, refl, sym, ap, ◌∙◌, append_assoc}
+use Rattle.std.proofs.Common.{◌≡◌, ℕ, Bool, ◌+◌, ◌<◌, drop, get_or, add-one, List, [], ◌∷◌, ◌++◌, length, suc, Ok, Err, refl, sym, ap, ◌∙◌, append_assoc}
 use Rattle.std.proofs.lemmas.List.{append-nil}
 use Rattle.std.proofs.Math.Seq.{drop-cons}
 use Rattle.dsm_syntax.specs.declared.errors.ProgErr.{ProgErr}
 use Rattle.dsm_syntax.specs.declared.tree.Expr.{Expr}
 use Rattle.dsm_syntax.specs.declared.tree.Name.{Name}
 use Rattle.dsm_check.specs.declared.names.Named.{Named}
-use Rattle.dsm_syntax.specs.Tree as t
 use Rattle.dsm_syntax.specs.Views as tree
 use Rattle.dsm_check.specs.declared.resolved.Expression.{Expression}
 use Rattle.dsm_check.specs.Resolved as r
@@ -55,7 +54,7 @@ pub behind-next : (names : List Entry) (made : List Expression) (e : Expr) (rest
     → behind made (resolve_all names (tree.views (e ∷ rest))) ≡ behind (made ++ value ∷ []) (resolve_all names (tree.views rest))
 behind-next names made e rest value h =
     ap (λ first. behind made (first >>= (λ one. resolve_all names (tree.views rest) >>= (λ others. Ok (r.cons one others))))) h
-        ∙ by (resolve_all names (tree.views rest))
+    ∙ by (resolve_all names (tree.views rest))
   where
     by : (check : Check r.Expressions) → behind made (check >>= (λ others. Ok (r.cons (view value) others))) ≡ behind (made ++ value ∷ []) check
     by (Ok more) = ap (λ all. Ok all) (joined-push made value more)
@@ -73,9 +72,9 @@ pub called : (needed : Bool) (names : List Entry) (name : Name) (arguments : Lis
     → resolve_call needed names name (tree.views arguments) ≡ Ok (r.call function values name.line)
 called needed names name arguments named function values h1 h2 h3 =
     ap (λ found. found >>= (λ named. as_called needed name (count_of (tree.views arguments)) named >>= (λ function. resolve_all names (tree.views arguments) >>= (λ values. Ok (r.call function values name.line))))) h1
-        ∙ ap (λ n. as_called needed name n named >>= (λ function. resolve_all names (tree.views arguments) >>= (λ values. Ok (r.call function values name.line)))) (counted arguments)
-        ∙ ap (λ found. found >>= (λ function. resolve_all names (tree.views arguments) >>= (λ values. Ok (r.call function values name.line)))) h2
-        ∙ ap (λ found. found >>= (λ values. Ok (r.call function values name.line))) h3
+    ∙ ap (λ n. as_called needed name n named >>= (λ function. resolve_all names (tree.views arguments) >>= (λ values. Ok (r.call function values name.line)))) (counted arguments)
+    ∙ ap (λ found. found >>= (λ function. resolve_all names (tree.views arguments) >>= (λ values. Ok (r.call function values name.line)))) h2
+    ∙ ap (λ found. found >>= (λ values. Ok (r.call function values name.line))) h3
 
 -- Lists.
 
@@ -93,7 +92,7 @@ pub onto-next : {A B S : Type 0} (step : S → A → Check (B × S)) (made : Lis
     → onto made (each_made step before (a ∷ rest)) ≡ onto (made ++ b ∷ []) (each_made step next rest)
 onto-next {A} {B} {S} step made before a rest b next h =
     ap (λ first. onto made (first >>= (λ one. each_made step one.1 rest >>= (λ others. Ok (one.0 ∷ others.0, others.1))))) h
-        ∙ by (each_made step next rest)
+    ∙ by (each_made step next rest)
   where
     by : (check : Check (List B × S)) → onto made (check >>= (λ others. Ok (b ∷ others.0, others.1))) ≡ onto (made ++ b ∷ []) check
     by (Ok more) = ap (λ (all : List B). Ok (all, more.1)) (sym (append_assoc made (b ∷ []) more.0))
@@ -114,7 +113,7 @@ pub put-next : {A B : Type 0} (make : A → Check B) (made : List B) (a : A) (re
     → put made (all_made make (a ∷ rest)) ≡ put (made ++ b ∷ []) (all_made make rest)
 put-next {A} {B} make made a rest b h =
     ap (λ first. put made (first >>= (λ one. all_made make rest >>= (λ others. Ok (one ∷ others))))) h
-        ∙ by (all_made make rest)
+    ∙ by (all_made make rest)
   where
     by : (check : Check (List B)) → put made (check >>= (λ others. Ok (b ∷ others))) ≡ put (made ++ b ∷ []) check
     by (Ok more) = ap (λ (all : List B). Ok all) (sym (append_assoc made (b ∷ []) more))

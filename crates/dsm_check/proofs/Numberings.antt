@@ -1,5 +1,5 @@
 -- The numbers of a file's names.
-use Rattle.std.proofs.Common.{◌≡◌, ℕ, ◌+◌, ◌<◌, ◌≤◌, Bool, true, false, ◌&&◌, List, [], ◌∷◌, bytes_eq, Option, Some, None, is_some, ◌||◌, IfSome, refl, sym, ap, ◌∙◌, subst, cond, if◌then◌else◌, arith}
+use Rattle.std.proofs.Common.{◌≡◌, ℕ, ◌+◌, ◌<◌, ◌≤◌, Bool, true, false, ◌&&◌, List, [], ◌∷◌, bytes_eq, Option, Some, None, is_some, ◌||◌, IfSome, refl, if◌then◌else◌, arith}
 use Rattle.std.proofs.lemmas.Bool.{false≢true}
 use Rattle.std.proofs.lemmas.Bool.Decides.{nat_tests}
 use Rattle.dsm_syntax.specs.declared.tree.Sharing.{Sharing}
@@ -10,8 +10,8 @@ use Rattle.std.specs.Prelude.{IsTrue, ⊤}
 use Rattle.dsm_check.specs.Numbers.{is_next, is_numbered, IsThere}
 
 abbrev pub IsNext : List Entry → Named → Type 0
-IsNext names (Named.Cells sharing first size) = (first ≡ total (cells_in sharing) names) × (first + extent size ≤ most_cells sharing)
-IsNext names (Named.Locks first size) = (first ≡ total locks_in names) × (first + extent size ≤ 256)
+IsNext names (Named.Cells sharing first size) = (first ≡ total (cells_in sharing) names) × (first + extent size ≤ most_cells sharing) × (0 < extent size)
+IsNext names (Named.Locks first size) = (first ≡ total locks_in names) × (first + extent size ≤ 256) × (0 < extent size)
 IsNext names (Named.Barrier number) = (number ≡ total barriers_in names) × (number < 64)
 IsNext names (Named.Function number returns params) = (number ≡ total functions_in names) × (number < 256) × (params ≤ 16)
 IsNext names (Named.Variable slot) = ⊥
@@ -27,8 +27,8 @@ two true false h = absurd (false≢true h)
 two false b h = absurd (false≢true h)
 
 next : (names : List Entry) (named : Named) → IsTrue (is_next names named) → IsNext names named
-next names (Named.Cells sharing first size) h = (grind (arith, nat_tests), grind (arith, nat_tests))
-next names (Named.Locks first size) h = (grind (arith, nat_tests), grind (arith, nat_tests))
+next names (Named.Cells sharing first size) h = (grind (arith, nat_tests), grind (arith, nat_tests), grind (arith, nat_tests))
+next names (Named.Locks first size) h = (grind (arith, nat_tests), grind (arith, nat_tests), grind (arith, nat_tests))
 next names (Named.Barrier number) h = (grind (arith, nat_tests), grind (arith, nat_tests))
 next names (Named.Function number returns params) h = (grind (arith, nat_tests), grind (arith, nat_tests), grind (arith, nat_tests))
 next names (Named.Variable slot) h = absurd (false≢true h)
@@ -74,16 +74,16 @@ cells_few Sharing.Private names numbered = (totals names numbered).private
 -- one name more leaves what is there
 more : (name : List ℕ) (added named : Named) (names : List Entry) → IsNumbered (known name added ∷ names) → IsThere names named
     → IsThere (known name added ∷ names) named
-more name added (Named.Cells sharing first size) names numbered there = (omega (arith, there.0), cells_few sharing (known name added ∷ names) numbered)
-more name added (Named.Locks first size) names numbered there = (omega (arith, there.0), (totals (known name added ∷ names) numbered).locks)
+more name added (Named.Cells sharing first size) names numbered there = (omega (arith, there.0), cells_few sharing (known name added ∷ names) numbered, there.2)
+more name added (Named.Locks first size) names numbered there = (omega (arith, there.0), (totals (known name added ∷ names) numbered).locks, there.2)
 more name added (Named.Barrier number) names numbered there = (omega (arith, there.0), (totals (known name added ∷ names) numbered).barriers)
 more name added (Named.Function number returns params) names numbered there = (omega (arith, there.0), (totals (known name added ∷ names) numbered).functions, there.2)
 more name added (Named.Variable slot) names numbered there = there
 
 newest : (name : List ℕ) (added : Named) (names : List Entry) → IsNext names added → IsThere (known name added ∷ names) added
-newest name (Named.Cells Sharing.Shared first size) names next = (omega (arith, next.0), omega (arith, next.0, next.1))
-newest name (Named.Cells Sharing.Private first size) names next = (omega (arith, next.0), omega (arith, next.0, next.1))
-newest name (Named.Locks first size) names next = (omega (arith, next.0), omega (arith, next.0, next.1))
+newest name (Named.Cells Sharing.Shared first size) names next = (omega (arith, next.0), omega (arith, next.0, next.1), next.2)
+newest name (Named.Cells Sharing.Private first size) names next = (omega (arith, next.0), omega (arith, next.0, next.1), next.2)
+newest name (Named.Locks first size) names next = (omega (arith, next.0), omega (arith, next.0, next.1), next.2)
 newest name (Named.Barrier number) names next = (omega (arith, next.0), omega (arith, next.0, next.1))
 newest name (Named.Function number returns params) names next = (omega (arith, next.0), omega (arith, next.0, next.1), next.2)
 newest name (Named.Variable slot) names next = next
@@ -115,3 +115,6 @@ here_of (known other named ∷ names) name numbered = by (bytes_eq name other) (
 -- a file's name is declared where it means something
 pub here : (names : List Entry) (name : List ℕ) → IsTrue (is_numbered names) → is_here names name ≡ is_some (meaning names name)
 here names name h = here_of names name (numbered names h)
+
+pub limits : (names : List Entry) → IsTrue (is_numbered names) → Totals names
+limits names h = totals names (numbered names h)

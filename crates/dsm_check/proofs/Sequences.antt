@@ -37,10 +37,10 @@ trailing-end made scope = ap (λ (all : r.Statements). Ok (all, scope)) (followe
 pub trailing-next : (around : Around) (looped : Bool) (made : List Statement) (before : Scope) (s : Stmt) (rest : List Stmt) (value : Statement) (next : Scope)
     → resolve_statement around looped before (tree.view_statement s) ≡ Ok (view_statement value, next)
     → trailing made (resolve_statements around looped before (tree.view_statements (s ∷ rest)))
-        ≡ trailing (made ++ value ∷ []) (resolve_statements around looped next (tree.view_statements rest))
+    ≡ trailing (made ++ value ∷ []) (resolve_statements around looped next (tree.view_statements rest))
 trailing-next around looped made before s rest value next h =
     ap (λ first. trailing made (first >>= (λ one. resolve_statements around looped one.1 (tree.view_statements rest) >>= (λ others. Ok (r.then one.0 others.0, others.1))))) h
-        ∙ by (resolve_statements around looped next (tree.view_statements rest))
+    ∙ by (resolve_statements around looped next (tree.view_statements rest))
   where
     by : (check : Check (r.Statements × Scope)) → trailing made (check >>= (λ others. Ok (r.then (view_statement value) others.0, others.1))) ≡ trailing (made ++ value ∷ []) check
     by (Ok more) = ap (λ (all : r.Statements). Ok (all, more.1)) (followed-push made value more.0)
@@ -54,5 +54,5 @@ pub blocked : (around : Around) (looped : Bool) (statements : t.Statements) (mad
     → resolve_statement around looped before (t.block statements) ≡ Ok (r.block made, after)
 blocked around looped statements made before inside last after begun h ended =
     ap (λ (scope : Scope). closing (resolve_statements around looped scope statements) >>= (λ made. Ok (r.block made.0, made.1))) (sym begun)
-        ∙ ap (λ check. closing check >>= (λ made. Ok (r.block made.0, made.1))) h
-        ∙ ap (λ (scope : Scope). Ok (r.block made, scope)) (sym ended)
+    ∙ ap (λ check. closing check >>= (λ made. Ok (r.block made.0, made.1))) h
+    ∙ ap (λ (scope : Scope). Ok (r.block made, scope)) (sym ended)

@@ -1,5 +1,5 @@
 -- Tables of names.
-use Rattle.std.proofs.Common.{◌≡◌, ℕ, Bool, true, false, List, [], ◌∷◌, ◌++◌, map, reverse, bytes_eq, Option, Some, None, refl, sym, ap, ◌∙◌, subst, cond, if◌then◌else◌}
+use Rattle.std.proofs.Common.{◌≡◌, ℕ, Bool, true, false, List, [], ◌∷◌, ◌++◌, map, reverse, bytes_eq, Some, None, refl, sym, ap, ◌∙◌, cond, if◌then◌else◌}
 use Rattle.std.specs.Map.{lookup}
 use Rattle.std.proofs.lemmas.List.{reverse-append, map_push}
 use Rattle.std.specs.Cmp.Lexicographic.{bytes_decides}
@@ -34,7 +34,7 @@ module _ {K : Type 0} (text : K → List ℕ) where
       → meaning (shown text entries) (text key) ≡ None → IsFound text (entries ++ (key, named) ∷ [])
   found-push entries key named found absent name =
       let gone : bytes_eq name (text key) ≡ true → lookup (λ k. bytes_eq name (text k)) entries ≡ None
-          = λ same. found name ∙ ap (meaning (shown text entries)) ((bytes_decides name (text key)).0 same) ∙ absent in
+      = λ same. found name ∙ ap (meaning (shown text entries)) ((bytes_decides name (text key)).0 same) ∙ absent in
       lookup-push (λ k. bytes_eq name (text k)) entries key named gone
-          ∙ ap (λ other. if bytes_eq name (text key) then Some named else other) (found name)
-          ∙ ap (λ all. meaning all name) (sym (shown-push entries key named))
+      ∙ ap (λ other. if bytes_eq name (text key) then Some named else other) (found name)
+      ∙ ap (λ all. meaning all name) (sym (shown-push entries key named))

@@ -8,6 +8,8 @@ pub mod Bodies
 pub mod Programs
 pub mod Setups
 pub mod Answers
+pub mod Accepted
+pub mod CheckedViews
 pub mod Scopes
 pub mod Numbers
 pub mod Overlaps

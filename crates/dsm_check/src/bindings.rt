@@ -36,7 +36,8 @@ fn as_locks(alloc: Global, name: &Name, named: Named) -> Result<(u16, Option<u16
 
 /// The size of an array of locks.
 fn as_size(alloc: Global, name: &Name, size: Option<u16>) -> Result<u16, ProgErr>
-    ensures { Gives (λ size. size) result (as_size name.now size) }
+    ensures value { Gives (λ size. size) result (as_size name.now size) }
+    ensures same { IfOk result (λ n. n ≡ extent size) }
 {
     match size {
         Some(size) => Ok(size),
@@ -163,6 +164,7 @@ impl<'a> Binder<'a> {
     fn locks(&self, name: &Name) -> Result<(u16, Option<u16>), ProgErr>
         ensures value { Gives (λ locks. locks) result (locks_of (names_of self.now.names.now) name.now) }
         ensures few { IfOk result (λ locks. locks.0 + extent locks.1 ≤ 256) }
+        ensures some { IfOk result (λ locks. 0 < extent locks.1) }
     {
         as_locks(self.alloc, name, self.used(name)?)
     }
@@ -220,11 +222,11 @@ impl<'a> Binder<'a> {
         ensures memory { IfErr result (λ e. e ≡ Memory) }
         ensures names { self.new.names.now ≡ self.old.names.now }
     {
-        let mut lock = lock;
+        let mut next = lock;
         let mut cell = first;
         for _ in 0..size {
-            self.pieces.push(lock_piece(lock, cell, count))?;
-            lock += 1;
+            self.pieces.push(lock_piece(next, cell, count))?;
+            next += 1;
             cell += count;
         }
         Ok(())

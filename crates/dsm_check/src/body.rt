@@ -18,8 +18,8 @@ use dsm_syntax as tree;
 use dsm_syntax::{Item, Name, ProgErr};
 use std::alloc::Global;
 
-/// Declares parameters, and gives how many there are.
-fn declare_params<'a>(scope: &mut Scope<'a>, params: &'a [Name]) -> Result<u8, ProgErr>
+/// Declares parameters.
+fn declare_params<'a>(scope: &mut Scope<'a>, params: &'a [Name]) -> Result<(), ProgErr>
     requires open { 1 ≤ blocks_in scope.old.locals }
     requires first { scope.old.slots ≡ 0 }
     ensures value { Gives (λ _. scope_of scope.new) result (each with_variable (scope_of scope.old) params.now) }
@@ -29,15 +29,11 @@ fn declare_params<'a>(scope: &mut Scope<'a>, params: &'a [Name]) -> Result<u8, P
     for param in params {
         scope.declare(param)?;
     }
-    Ok(scope.slots)
+    Ok(())
 }
 
 /// A function with every name resolved.
-fn resolve(
-    alloc: Global,
-    file: &Names,
-    function: &tree::Function,
-) -> Result<Function, ProgErr>
+fn resolve(alloc: Global, file: &Names, function: &tree::Function) -> Result<Function, ProgErr>
     ensures { Gives view_resolved result (resolve_function (names_of file.now) (view_function function.now)) }
 {
     let around = Around {

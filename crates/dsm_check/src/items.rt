@@ -1,6 +1,6 @@
 //! The names of a file.
 
-ghost use Rattle.std.specs.Prelude.{◌≡◌, ◌≤◌, [], OnOk, IfOk, None};
+ghost use Rattle.std.specs.Prelude.{◌≡◌, ◌≤◌, ◌<◌, [], OnOk, IfOk, None};
 ghost use Rattle.dsm_syntax.specs.Views.{view_params, view_function, view_item, view_items};
 ghost use Rattle.dsm_check.specs.Environments.{meaning, extent};
 ghost use Rattle.dsm_check.specs.Checks.{new, each};
@@ -17,6 +17,7 @@ use std::alloc::Global;
 fn size_of(alloc: Global, cell: &Declarator) -> Result<Option<u64>, ProgErr>
     ensures value { Gives (λ size. size) result (size_of cell.now.name cell.now.size) }
     ensures range { IfOk result (λ size. extent size ≤ 9223372036854775807) }
+    ensures some { IfOk result (λ size. 0 < extent size) }
 {
     let Some(size) = cell.size else {
         return Ok(None);
@@ -174,7 +175,12 @@ impl Declared {
         Ok(())
     }
 
-    fn all_cells(&mut self, alloc: Global, sharing: Sharing, cells: &[Declarator]) -> Result<(), ProgErr>
+    fn all_cells(
+        &mut self,
+        alloc: Global,
+        sharing: Sharing,
+        cells: &[Declarator],
+    ) -> Result<(), ProgErr>
         requires { AreCounted self.old }
         ensures value { Gives (λ _. names_of self.new.names) result (each (with_cells sharing) (names_of self.old.names) cells.now) }
         ensures counted { OnOk result (AreCounted self.new) }

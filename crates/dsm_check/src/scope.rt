@@ -64,7 +64,9 @@ impl<'a> Scope<'a> {
         let mut found = self.file.get(name);
         let oldest_first = self.locals.oldest_first();
         for known in oldest_first {
-            if let Known::Variable(other, slot) = known && name == *other {
+            if let Known::Variable(other, slot) = known
+                && name == *other
+            {
                 found = Some(Named::Variable(*slot));
             }
         }
@@ -109,7 +111,8 @@ impl<'a> Scope<'a> {
         }
         let slot = self.slots;
         let slots = within(Which::Slots, 192, u64::from(slot) + 1)?;
-        self.locals.push(Known::Variable(name.text.as_slice(), slot))?;
+        self.locals
+            .push(Known::Variable(name.text.as_slice(), slot))?;
         self.slots = slots as u8;
         Ok(slot)
     }

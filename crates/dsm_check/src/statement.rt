@@ -18,8 +18,8 @@ use crate::refusal::{wrong_kind, wrong_kind_at};
 use crate::resolved::{Array, Expression, ForStart, LockPlace, Part, Statement, Variable};
 use crate::scope::Scope;
 use dsm_base::{Bar, Lock, Mode, Text};
-use dsm_syntax::{Expr, Name, Place, ProgErr, Returns, Stmt, Which};
 use dsm_syntax as tree;
+use dsm_syntax::{Expr, Name, Place, ProgErr, Returns, Stmt, Which};
 use std::alloc::Global;
 
 /// A lock without an index.
@@ -169,7 +169,12 @@ impl<'a> Scope<'a> {
     }
 
     /// The value of a `return`.
-    fn returned(&self, around: Around<'a>, line: u32, value: &Option<Expr>) -> Result<Option<Expression>, ProgErr>
+    fn returned(
+        &self,
+        around: Around<'a>,
+        line: u32,
+        value: &Option<Expr>,
+    ) -> Result<Option<Expression>, ProgErr>
         ensures { Gives (tree.option_view view) result (resolve_return (around_of around.entry) (scope_of self.now).names line (tree.option_view tree.view value.now)) }
     {
         if value.is_some() && is_void(around.returns) {
@@ -180,7 +185,12 @@ impl<'a> Scope<'a> {
 
     /// A statement that is part of another, as a block of its own.
     #[cycle(statement)]
-    fn inner(&mut self, around: Around<'a>, looped: bool, s: &'a Stmt) -> Result<Box<Statement>, ProgErr>
+    fn inner(
+        &mut self,
+        around: Around<'a>,
+        looped: bool,
+        s: &'a Stmt,
+    ) -> Result<Box<Statement>, ProgErr>
         requires { 1 ≤ blocks_in self.old.locals }
         ensures value { Gives (λ made. (view_statement made.value, scope_of self.new)) result (closing (resolve_statement (around_of around.entry) looped (open_block (scope_of self.old)) (tree.view_statement s.now))) }
         ensures blocks { OnOk result (blocks_in self.new.locals ≡ blocks_in self.old.locals) }
@@ -217,7 +227,12 @@ impl<'a> Scope<'a> {
 
     /// Statements one after the other.
     #[cycle(statement)]
-    pub fn statements(&mut self, around: Around<'a>, looped: bool, statements: &'a [Stmt]) -> Result<Vec<Statement>, ProgErr>
+    pub fn statements(
+        &mut self,
+        around: Around<'a>,
+        looped: bool,
+        statements: &'a [Stmt],
+    ) -> Result<Vec<Statement>, ProgErr>
         requires { 1 ≤ blocks_in self.old.locals }
         ensures value { Gives (λ made. (view_statements made.items, scope_of self.new)) result (resolve_statements (around_of around.entry) looped (scope_of self.old) (tree.view_statements statements.now)) }
         ensures blocks { OnOk result (blocks_in self.new.locals ≡ blocks_in self.old.locals) }
@@ -231,7 +246,12 @@ impl<'a> Scope<'a> {
 
     /// A block.
     #[cycle(statement)]
-    fn block(&mut self, around: Around<'a>, looped: bool, statements: &'a [Stmt]) -> Result<Statement, ProgErr>
+    fn block(
+        &mut self,
+        around: Around<'a>,
+        looped: bool,
+        statements: &'a [Stmt],
+    ) -> Result<Statement, ProgErr>
         requires { 1 ≤ blocks_in self.old.locals }
         ensures value { Gives (λ made. (view_statement made, scope_of self.new)) result (resolve_statement (around_of around.entry) looped (scope_of self.old) (t.block (tree.view_statements statements.now))) }
         ensures blocks { OnOk result (blocks_in self.new.locals ≡ blocks_in self.old.locals) }
@@ -244,7 +264,12 @@ impl<'a> Scope<'a> {
 
     /// A statement, by whether it is in a loop.
     #[cycle(statement)]
-    fn statement(&mut self, around: Around<'a>, looped: bool, s: &'a Stmt) -> Result<Statement, ProgErr>
+    fn statement(
+        &mut self,
+        around: Around<'a>,
+        looped: bool,
+        s: &'a Stmt,
+    ) -> Result<Statement, ProgErr>
         requires { 1 ≤ blocks_in self.old.locals }
         ensures value { Gives (λ made. (view_statement made, scope_of self.new)) result (resolve_statement (around_of around.entry) looped (scope_of self.old) (tree.view_statement s.now)) }
         ensures blocks { OnOk result (blocks_in self.new.locals ≡ blocks_in self.old.locals) }

@@ -1,5 +1,5 @@
 -- An `if`, with and without an `else`, and loops.
-use Rattle.std.proofs.Common.{◌≡◌, ◌≤◌, ℕ, ◌+◌, Bool, true, false, List, [], ◌∷◌, ◌++◌, Some, refl, sym, ap, ◌∙◌, arith}
+use Rattle.std.proofs.Common.{◌≡◌, ◌≤◌, ℕ, Bool, true, false, List, [], ◌∷◌, ◌++◌, Some, refl, sym, ap, ◌∙◌, arith}
 use Rattle.std.proofs.lemmas.List.{append-nil}
 use Rattle.dsm_syntax.specs.declared.sign.Sign.{Sign}
 use Rattle.dsm_syntax.specs.declared.word.Word.{Word}

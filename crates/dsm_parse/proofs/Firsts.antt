@@ -11,7 +11,6 @@ use Rattle.dsm_parse.specs.Grammar.{spell, spell_statement, FitsStatement, ends_
 use Rattle.dsm_parse.specs.Heights.{height_statement}
 use Rattle.dsm_parse.specs.Reading.{unexpected, too_high, and_then, look, is_word, ended_by}
 use Rattle.dsm_parse.specs.Signs.{begins_expression}
-use Rattle.dsm_parse.specs.Expressions.{expression}
 use Rattle.dsm_parse.specs.Statements.{kind, no_statement, statement_by, statement}
 use Rattle.dsm_parse.proofs.Good.{Language, Follow, Spelled}
 use Rattle.dsm_parse.proofs.Beginnings.{begun_with, expression_high, spell_long}

@@ -1,5 +1,5 @@
 -- Each statement that the grammar has is read from its spelling.
-use Rattle.std.proofs.Common.{◌≡◌, ◌≤◌, ℕ, zero, suc, ◌+◌, true, false, not, cond, List, [], ◌∷◌, ◌++◌, length, length-append, Option, IfSome, refl, sym, ap, ◌∙◌, subst, arith, append_assoc}
+use Rattle.std.proofs.Common.{◌≡◌, ◌≤◌, ℕ, zero, suc, true, false, not, cond, List, [], ◌∷◌, ◌++◌, length, length-append, Option, IfSome, refl, sym, ap, ◌∙◌, subst, arith, append_assoc}
 use Rattle.dsm_syntax.specs.declared.sign.Sign.{Sign}
 use Rattle.dsm_syntax.specs.declared.word.Word.{Word}
 use Rattle.dsm_syntax.specs.declared.tree.Name.{Name}
@@ -10,8 +10,8 @@ use Rattle.dsm_parse.specs.Grammar.{spell, spell_option, spell_place, spell_vari
 use Rattle.dsm_parse.specs.Heights.{height, height_option, height_place, height_variable, height_part, height_statement, height_statements, highest}
 use Rattle.dsm_parse.specs.Reading.{ok, Reader, and_then, look, tail, is_sign, is_word, ended_by, repeated, list_of}
 use Rattle.dsm_parse.specs.Tokens.{read_name}
-use Rattle.dsm_parse.specs.Expressions.{expression, place}
-use Rattle.dsm_parse.specs.Statements.{variables, part, test, argument, Head, lock, goes_on, in_order, statements, if_of, else_of, while_of, for_of, statement_by, statement, body}
+use Rattle.dsm_parse.specs.Expressions.{place}
+use Rattle.dsm_parse.specs.Statements.{part, test, argument, Head, lock, goes_on, in_order, statements, if_of, else_of, while_of, for_of, statement_by, statement, body}
 use Rattle.dsm_parse.proofs.Repeats.{stops, turns}
 use Rattle.dsm_parse.proofs.Beginnings.{spell_begins, no_sign, no_word}
 use Rattle.dsm_parse.proofs.Complete.{ends_semicolon, expression_reads, place_reads}

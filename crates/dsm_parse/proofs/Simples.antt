@@ -12,8 +12,8 @@ use Rattle.dsm_parse.specs.Grammar.{spell_name, spell_place, spell_statement, Fi
 use Rattle.dsm_parse.specs.Heights.{height_place, height_statement}
 use Rattle.dsm_parse.specs.Reading.{ok, too_high, Reader, and_then, look, tail, ended_by, list_of}
 use Rattle.dsm_parse.specs.Tokens.{read_name}
-use Rattle.dsm_parse.specs.Expressions.{expression, place}
-use Rattle.dsm_parse.specs.Statements.{deeper, variable, variables, argument, lock, barrier, print, declaration, expression_statement, return_at}
+use Rattle.dsm_parse.specs.Expressions.{place}
+use Rattle.dsm_parse.specs.Statements.{deeper, variable, argument, lock, barrier, print, declaration, expression_statement, return_at}
 use Rattle.dsm_parse.proofs.Fronts.{cons_of}
 use Rattle.dsm_parse.proofs.Good.{Language, Follow, Free, Spelled, Begins, BeginsPast, Good, good_ok, good_too_high, good_as, good_weaken, good_map, good_next, good_after, good_end}
 use Rattle.dsm_parse.proofs.Singles.{single_name, good_alone}

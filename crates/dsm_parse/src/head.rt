@@ -22,7 +22,7 @@ pub struct ForHead {
     pub step: Option<Expr>,
 }
 
-/// An expression, or none where this sign comes next.
+/// Reads an expression, or none where this sign comes next.
 pub fn unless_sign(
     alloc: Global,
     cursor: &mut Cursor<'_>,
@@ -39,7 +39,7 @@ pub fn unless_sign(
     Ok(Some(expression(alloc, cursor, most)?.tree))
 }
 
-/// A condition in parentheses.
+/// Reads a condition in parentheses.
 pub fn test(alloc: Global, cursor: &mut Cursor<'_>, most: u32) -> Result<Expr, Refusal>
     requires { most < 2 ^ 28 }
     ensures { Gives view (reader.test most cursor.old) result cursor.new }
@@ -50,6 +50,7 @@ pub fn test(alloc: Global, cursor: &mut Cursor<'_>, most: u32) -> Result<Expr, R
     Ok(test)
 }
 
+/// Reads what stands first in the head of a `for`.
 fn start(alloc: Global, cursor: &mut Cursor<'_>, most: u32) -> Result<ForStart, Refusal>
     requires { most < 2 ^ 28 }
     ensures { Gives view_start (reader.start most cursor.old) result cursor.new }
@@ -63,7 +64,7 @@ fn start(alloc: Global, cursor: &mut Cursor<'_>, most: u32) -> Result<ForStart, 
     Ok(ForStart::Expression(expression(alloc, cursor, most)?.tree))
 }
 
-/// What stands in the parentheses of a `for`, with them.
+/// Reads the parentheses of a `for`, and what stands in them.
 pub fn for_head(alloc: Global, cursor: &mut Cursor<'_>, most: u32) -> Result<ForHead, Refusal>
     requires { most < 2 ^ 28 }
     ensures { Gives reader.view_head (reader.head most cursor.old) result cursor.new }

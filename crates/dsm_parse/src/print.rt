@@ -12,7 +12,7 @@ use crate::refusal::Refusal;
 use dsm_syntax::{Part, Sign};
 use std::alloc::Global;
 
-/// A string or an expression.
+/// Reads a string or an expression.
 fn part(alloc: Global, cursor: &mut Cursor<'_>, most: u32) -> Result<Part, Refusal>
     requires { most < 2 ^ 28 }
     ensures { Gives view_part (reader.part most cursor.old) result cursor.new }
@@ -23,7 +23,7 @@ fn part(alloc: Global, cursor: &mut Cursor<'_>, most: u32) -> Result<Part, Refus
     Ok(Part::Value(expression(alloc, cursor, most)?.tree))
 }
 
-/// Parts, each after a comma.
+/// Reads parts of a print, parted by commas.
 pub fn parts(alloc: Global, cursor: &mut Cursor<'_>, most: u32) -> Result<Vec<Part>, Refusal>
     requires { most < 2 ^ 28 }
     ensures { Gives (λ all. map view_part all.items) (list_of (reader.part most) cursor.old) result cursor.new }

@@ -26,7 +26,7 @@ pub fn deeper(cursor: &mut Cursor<'_>, below: u32) -> Result<(), Refusal>
     Ok(())
 }
 
-/// A word, and the place of a lock.
+/// Reads a word, and the place of a lock.
 pub fn lock(alloc: Global, cursor: &mut Cursor<'_>, below: u32) -> Result<Place, Refusal>
     requires { below < 2 ^ 28 }
     ensures { Gives view_place (reader.lock below cursor.old) result cursor.new }
@@ -39,7 +39,7 @@ pub fn lock(alloc: Global, cursor: &mut Cursor<'_>, below: u32) -> Result<Place,
     Ok(place)
 }
 
-/// A word, and the name of a barrier.
+/// Reads a word, and the name of a barrier.
 pub fn barrier(alloc: Global, cursor: &mut Cursor<'_>, below: u32) -> Result<Name, Refusal>
     ensures { Gives (λ name. name) (reader.barrier below cursor.old) result cursor.new }
 {
@@ -51,7 +51,7 @@ pub fn barrier(alloc: Global, cursor: &mut Cursor<'_>, below: u32) -> Result<Nam
     Ok(name)
 }
 
-/// What stands behind `print`.
+/// Reads what is behind `print`.
 pub fn print(alloc: Global, cursor: &mut Cursor<'_>, below: u32) -> Result<Stmt, Refusal>
     requires { below < 2 ^ 28 }
     ensures { Gives view_statement (reader.print below cursor.old) result cursor.new }
@@ -63,7 +63,7 @@ pub fn print(alloc: Global, cursor: &mut Cursor<'_>, below: u32) -> Result<Stmt,
     Ok(Stmt::Print(parts))
 }
 
-/// Variables of a function.
+/// Reads variables, and a semicolon.
 pub fn declaration(alloc: Global, cursor: &mut Cursor<'_>, below: u32) -> Result<Stmt, Refusal>
     requires { below < 2 ^ 28 }
     ensures { Gives view_statement (reader.declaration below cursor.old) result cursor.new }
@@ -73,6 +73,7 @@ pub fn declaration(alloc: Global, cursor: &mut Cursor<'_>, below: u32) -> Result
     Ok(Stmt::Variables(all))
 }
 
+/// Reads an expression, and a semicolon.
 pub fn expression_statement(
     alloc: Global,
     cursor: &mut Cursor<'_>,
@@ -86,7 +87,7 @@ pub fn expression_statement(
     Ok(Stmt::Expression(value))
 }
 
-/// What stands behind `return`.
+/// Reads what is behind a `return` of this line.
 pub fn return_at(
     alloc: Global,
     cursor: &mut Cursor<'_>,

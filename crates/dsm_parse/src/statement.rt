@@ -21,7 +21,7 @@ fn goes_on(cursor: &Cursor<'_>) -> bool
     !cursor.is_empty() && !cursor.is_sign(Sign::BraceClose)
 }
 
-/// Statements, and the closing brace.
+/// Reads statements of at most this height, and the closing brace.
 #[cycle(statement)]
 fn statements(alloc: Global, cursor: &mut Cursor<'_>, most: u32) -> Result<Vec<Stmt>, Refusal>
     requires { most < 2 ^ 28 }
@@ -35,7 +35,7 @@ fn statements(alloc: Global, cursor: &mut Cursor<'_>, most: u32) -> Result<Vec<S
     Ok(all)
 }
 
-/// An `if`.
+/// Reads an `if`, with at most so many levels below it.
 #[cycle(statement)]
 fn branches(alloc: Global, cursor: &mut Cursor<'_>, below: u32) -> Result<Stmt, Refusal>
     requires { below < 2 ^ 28 }
@@ -52,7 +52,7 @@ fn branches(alloc: Global, cursor: &mut Cursor<'_>, below: u32) -> Result<Stmt, 
     Ok(Stmt::IfElse(test, body, other))
 }
 
-/// A `while`.
+/// Reads a `while`, with at most so many levels below it.
 #[cycle(statement)]
 fn while_loop(alloc: Global, cursor: &mut Cursor<'_>, below: u32) -> Result<Stmt, Refusal>
     requires { below < 2 ^ 28 }
@@ -64,7 +64,7 @@ fn while_loop(alloc: Global, cursor: &mut Cursor<'_>, below: u32) -> Result<Stmt
     Ok(Stmt::While(test, body))
 }
 
-/// A `for`.
+/// Reads a `for`, with at most so many levels below it.
 #[cycle(statement)]
 fn for_loop(alloc: Global, cursor: &mut Cursor<'_>, below: u32) -> Result<Stmt, Refusal>
     requires { below < 2 ^ 28 }
@@ -76,16 +76,16 @@ fn for_loop(alloc: Global, cursor: &mut Cursor<'_>, below: u32) -> Result<Stmt, 
     Ok(Stmt::For(head.start, head.test, head.step, body))
 }
 
-/// A `break` or a `continue`.
-fn jump(cursor: &mut Cursor<'_>, jump: Stmt) -> Result<Stmt, Refusal>
-    ensures { Gives view_statement (ended_by Sign.Semicolon (view_statement jump) (tail cursor.old)) result cursor.new }
+/// Reads a statement of one word, a `break` or a `continue`.
+fn jump(cursor: &mut Cursor<'_>, statement: Stmt) -> Result<Stmt, Refusal>
+    ensures { Gives view_statement (ended_by Sign.Semicolon (view_statement statement) (tail cursor.old)) result cursor.new }
 {
     cursor.skip();
     cursor.expect(Sign::Semicolon)?;
-    Ok(jump)
+    Ok(statement)
 }
 
-/// With so many levels below the statement.
+/// Reads a statement of this kind, with at most so many levels below it.
 #[cycle(statement)]
 fn statement_by(
     alloc: Global,
@@ -127,7 +127,7 @@ fn statement_by(
     }
 }
 
-/// With no level.
+/// Refuses the first token of a statement, which can't have height 0.
 fn no_statement(
     alloc: Global,
     cursor: &mut Cursor<'_>,
@@ -141,7 +141,7 @@ fn no_statement(
     }
 }
 
-/// A statement of at most this height.
+/// Reads a statement of at most this height.
 #[cycle(statement)]
 fn statement(alloc: Global, cursor: &mut Cursor<'_>, most: u32) -> Result<Stmt, Refusal>
     requires { most < 2 ^ 28 }
@@ -154,7 +154,10 @@ fn statement(alloc: Global, cursor: &mut Cursor<'_>, most: u32) -> Result<Stmt, 
     statement_by(alloc, cursor, most - 1, kind)
 }
 
-/// The body of a function, of at most this height.
+/// Reads the body of a function, of at most this height.
+///
+/// `Unexpected` comes for a next token with which no body goes on, and `TooHigh` for one with which only higher ones do;
+/// `Memory` comes for want of memory.
 pub fn body(alloc: Global, cursor: &mut Cursor<'_>, most: u32) -> Result<Vec<Stmt>, Refusal>
     requires { most < 2 ^ 28 }
     ensures { Gives (λ all. view_statements all.items) (reader.body most cursor.old) result cursor.new }

@@ -22,7 +22,7 @@ fn assign_line(cursor: &Cursor<'_>) -> Option<u32>
     }
 }
 
-/// What a variable begins with, where a `=` comes next.
+/// Reads what a variable begins with, where a `=` comes next.
 fn initial(alloc: Global, cursor: &mut Cursor<'_>, most: u32) -> Result<Option<Initial>, Refusal>
     requires { most < 2 ^ 28 }
     ensures { Gives (option_view view_initial) (reader.initial most cursor.old) result cursor.new }
@@ -35,7 +35,7 @@ fn initial(alloc: Global, cursor: &mut Cursor<'_>, most: u32) -> Result<Option<I
     Ok(Some(Initial { line, value }))
 }
 
-/// A name, and what it begins with.
+/// Reads a name, and what it begins with.
 fn variable(alloc: Global, cursor: &mut Cursor<'_>, most: u32) -> Result<Variable, Refusal>
     requires { most < 2 ^ 28 }
     ensures { Gives view_variable (reader.variable most cursor.old) result cursor.new }
@@ -45,7 +45,7 @@ fn variable(alloc: Global, cursor: &mut Cursor<'_>, most: u32) -> Result<Variabl
     Ok(Variable { name, initial })
 }
 
-/// Variables, each after a comma.
+/// Reads variables parted by commas.
 fn list(alloc: Global, cursor: &mut Cursor<'_>, most: u32) -> Result<Vec<Variable>, Refusal>
     requires some { 1 ≤ most }
     requires fits { most < 2 ^ 28 }
@@ -60,7 +60,7 @@ fn list(alloc: Global, cursor: &mut Cursor<'_>, most: u32) -> Result<Vec<Variabl
     Ok(all)
 }
 
-/// The word `int` and variables.
+/// Reads the word `int`, and variables parted by commas.
 pub fn variables(
     alloc: Global,
     cursor: &mut Cursor<'_>,

@@ -4,7 +4,7 @@ use Rattle.std.specs.Str.{bytes_eq}
 use Rattle.dsm_base.specs.declared.act.SchedErr.{SchedErr}
 use Rattle.dsm_base.specs.declared.names.Proc.{Proc}
 use Rattle.dsm_words.specs.Words.{Row, number_of}
-use Rattle.dsm_words.specs.Entries.{Kind, entry_at, said_by_text}
+use Rattle.dsm_words.specs.Entries.{EntryKind, entry_at, said_by_text}
 use Rattle.dsm_picks.specs.declared.picks.PickEntry.{PickEntry}
 use Rattle.dsm_picks.specs.declared.picks.Picks.{Picks}
 use Rattle.dsm_picks.specs.declared.entry.Form.{Form}
@@ -41,7 +41,7 @@ abbrev pub pick_at : ℕ → Row → Result PickEntry SchedErr
 pick_at procs row = entry_at row.line (form_of row.words) (entry_in procs)
 
 -- lists of picks, as texts of entries
-abbrev pub picks_kind : Kind PickEntry
+abbrev pub picks_kind : EntryKind PickEntry
 picks_kind = record { says = λ procs rows. map (pick_at procs) rows; units = entry_units }
 
 -- what a text says as a list of picks: how many processors there are, and the entries

@@ -3,8 +3,11 @@
 ghost use Rattle.std.specs.Prelude.{IsTrue, ◌≡◌};
 ghost use Rattle.dsm_picks.specs.Picks.{is_picks, picked_by};
 
+mod unrolled;
+
 use dsm_base::Proc;
 use sqlite_items::Items;
+pub(crate) use unrolled::count;
 
 /// An entry of a list of picks.
 #[derive(Clone, Copy, Debug, PartialEq, Eq)]
@@ -26,7 +29,7 @@ pub struct Picks {
     pub procs: u8,
     pub entries: PickEntries,
     /// The picks one by one.
-    pub(crate) all: Items<Proc>,
+    all: Items<Proc>,
     pub ghost kept: { IsTrue (is_picks procs entries) },
     pub ghost are_all: { all ≡ picked_by procs entries },
 }

@@ -1,5 +1,5 @@
 -- What a run leaves.
-use Rattle.std.specs.Prelude.{◌≡◌, ◌≤◌, ◌+◌, ℕ, Bool, true, false, if◌then◌else◌, List, [], ◌∷◌, length, take, reverse, Option, Result, IfOk}
+use Rattle.std.specs.Prelude.{◌≡◌, ◌≤◌, ◌+◌, ℕ, Bool, true, false, if◌then◌else◌, List, [], ◌∷◌, length, take, reverse, Option, Result, IfOk, IsTrue}
 use Rattle.std.specs.List.{AllByRecursion}
 use Rattle.std.proofs.Common.{refl, sym, ap, ◌∙◌, arith, subst}
 use Rattle.dsm_base.specs.Causes.{Rose}
@@ -7,6 +7,8 @@ use Rattle.dsm_base.specs.Sink.{appended, TakesPart}
 use Rattle.dsm_base.specs.declared.act.Act.{Act}
 use Rattle.dsm_base.specs.declared.errors.MemFault.{MemFault}
 use Rattle.dsm_base.specs.declared.setup.Setup.{Setup}
+use Rattle.dsm_base.specs.Setups.{is_proc_count}
+use Rattle.dsm_base.specs.Threads.{StaysWithin}
 use Rattle.dsm_trace.specs.declared.trace.Group.{Group}
 use Rattle.dsm_trace.specs.Fits.{IsWithin, FitsUnits}
 use Rattle.dsm_trace.specs.OneMemory.{is_any_lock, BindsLocksOnly, IsOneMemory}
@@ -85,6 +87,18 @@ module _ (program : SmallProgram) (schedule : List Act) (law : Law) (all_within 
     run = is_run 0 [] (omega (arith)) refl;
     wrote = record { count = 0; taken = sym (appended-nil before) };
   }
+
+-- a setup for two processors
+pub at_two : (setup : Setup) (program : SmallProgram) (procs : ℕ) → procs ≡ 2 → ((fits : IsTrue (is_proc_count procs)) → setup ≡ small_setup program procs fits) → setup ≡ small_setup program 2 refl
+at_two setup program procs two value = subst (λ n. (fits : IsTrue (is_proc_count n)) → setup ≡ small_setup program n fits) two value refl
+
+-- what threads want is of the setup, whatever names it, the program and the number of processors have
+pub stays : (setup given : Setup) (own program : SmallProgram) (procs : ℕ) → setup ≡ given → own ≡ program → given.procs ≡ procs →
+    ((me : ℕ) → StaysWithin given small_semantics (small_first program procs me)) → (me : ℕ) → StaysWithin setup small_semantics (small_first own setup.procs me)
+stays setup given own program procs same_setup same_program count all me =
+    let counted : StaysWithin given small_semantics (small_first program given.procs me) = subst (λ n. StaysWithin given small_semantics (small_first program n me)) (sym count) (all me) in
+    let named : StaysWithin given small_semantics (small_first own given.procs me) = subst (λ one. StaysWithin given small_semantics (small_first one given.procs me)) (sym same_program) counted in
+    subst (λ s. StaysWithin s small_semantics (small_first own s.procs me)) (sym same_setup) named
 
 -- the first states of a program's threads
 pub first_states : (result : Result SmallWorld MemFault) (given program : SmallProgram) (procs : ℕ) → given ≡ program → procs ≡ 2 →

@@ -49,13 +49,13 @@ headed (first ∷ rows) =
 abbrev pub limited : {E : Type 0} → (E → ℕ) → List E → Result (List E) SchedErr
 limited units entries = if nat_le (sum_by units entries) 500000 then Ok entries else Err (SchedErr.TooMany (sum_by units entries))
 
--- What a kind of text has: what each row behind the first says for so many processors, and the units of an entry.
-pub record Kind (E : Type 0) : Type 0 where
+-- a kind of entries: what each row behind the first says for so many processors, and the units of an entry
+pub record EntryKind (E : Type 0) : Type 0 where
   pub says : ℕ → List Row → List (Result E SchedErr)
   pub units : ℕ → E → ℕ
 
 -- what rows say: how many processors there are, and the entries
-abbrev pub said_by : {E : Type 0} → Kind E → List Row → Result (ℕ × List E) SchedErr
+abbrev pub said_by : {E : Type 0} → EntryKind E → List Row → Result (ℕ × List E) SchedErr
 said_by kind rows = do
   head ← headed rows
   entries ← all_or_refusal (kind.says head.0 head.1)
@@ -63,7 +63,7 @@ said_by kind rows = do
   Ok (head.0, few)
 
 -- what a text says, which has at most 4,194,304 bytes
-abbrev pub said_by_text : {E : Type 0} → Kind E → List ℕ → Result (ℕ × List E) SchedErr
+abbrev pub said_by_text : {E : Type 0} → EntryKind E → List ℕ → Result (ℕ × List E) SchedErr
 said_by_text kind text =
     if nat_le (length text) 4194304 then said_by kind (rows_of text) else Err (SchedErr.TooLong (min (length text) 4294967295))
 

@@ -1,4 +1,4 @@
-use Rattle.std.proofs.Common.{◌≡◌, ℕ, get_or, Option, ◌+◌, ◌∷◌, ◌++◌, [], List, take, sym, ap, ◌∙◌, arith}
+use Rattle.std.proofs.Common.{◌≡◌, ℕ, get_or, Option, ◌+◌, ◌∷◌, [], List, take, sym, ap, ◌∙◌}
 use Rattle.std.proofs.lemmas.List.{take_more, take_all}
 use Rattle.dsm_base.specs.declared.setup.Object.{Object}
 use Rattle.dsm_base.specs.declared.setup.Piece.{Piece}
@@ -23,13 +23,13 @@ loop-piece-preserved c =
     let ends : c.from.result + c.from-2.result ≡ first + count = cc in
     let longer = ap (λ (ps : List Piece). first_bound ps first count) (take_more pieces i nothing c.loop-piece-test.true) in
     c.earlier-found.ensures
-        ∙ ap (λ (later : Option ℕ). earlier c.loop-piece.found later) (c.overlap.ensures ∙ ap (overlap piece first) ends ∙ sym (first_bound-one piece first count))
-        ∙ ap (λ (found : Option ℕ). earlier found (first_bound (piece ∷ []) first count)) c.loop-piece.invariant
-        ∙ sym (first_bound-more (take i pieces) piece first count)
-        ∙ sym longer
+    ∙ ap (λ (later : Option ℕ). earlier c.loop-piece.found later) (c.overlap.ensures ∙ ap (overlap piece first) ends ∙ sym (first_bound-one piece first count))
+    ∙ ap (λ (found : Option ℕ). earlier found (first_bound (piece ∷ []) first count)) c.loop-piece.invariant
+    ∙ sym (first_bound-more (take i pieces) piece first count)
+    ∙ sym longer
 
 pub returns : goal.returns
 returns c =
     let pieces = c.args.pieces.now in
     c.loop-piece.invariant
-        ∙ ap (λ (ps : List Piece). first_bound ps c.args.first c.args.count) (take_all _ pieces c.loop-piece-test.false)
+    ∙ ap (λ (ps : List Piece). first_bound ps c.args.first c.args.count) (take_all _ pieces c.loop-piece-test.false)

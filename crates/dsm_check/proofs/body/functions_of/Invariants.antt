@@ -9,4 +9,4 @@ use Rattle.dsm_check.proofs.body.functions_of.Given as goal
 abbrev pub invariant-loop-item : goal.invariant-loop-item
 invariant-loop-item l =
     functions_of (names_of l.file) (view_items l.items)
-        ≡ each (with_body (names_of l.file)) (map view_function l.functions.items) (view_items (drop l.item-index l.items))
+    ≡ each (with_body (names_of l.file)) (map view_function l.functions.items) (view_items (drop l.item-index l.items))

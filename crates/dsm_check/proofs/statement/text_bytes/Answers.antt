@@ -1,4 +1,4 @@
-use Rattle.std.proofs.Common.{◌≡◌, ◌+◌, List, min, map, drop, sym, ap, ◌∙◌, arith}
+use Rattle.std.proofs.Common.{◌+◌, List, min, map, ap, arith}
 use Rattle.std.proofs.lemmas.List.{drop_all}
 use Rattle.dsm_syntax.specs.declared.tree.Part.{Part}
 use Rattle.dsm_syntax.specs.Views as tree

@@ -6,5 +6,5 @@ use Rattle.dsm_check.proofs.statement.text_bytes.Given as goal
 abbrev pub invariant-loop-part : goal.invariant-loop-part
 invariant-loop-part l =
     (l.bytes ≤ 18446744073709551615)
-        × (min (l.bytes + text_bytes (map tree.view_part (drop l.part-index l.parts))) 18446744073709551615
-            ≡ min (text_bytes (map tree.view_part l.parts)) 18446744073709551615)
+    × (min (l.bytes + text_bytes (map tree.view_part (drop l.part-index l.parts))) 18446744073709551615
+    ≡ min (text_bytes (map tree.view_part l.parts)) 18446744073709551615)

@@ -7,4 +7,4 @@ use Rattle.dsm_check.proofs.items.Declared.all_barriers.Given as goal
 abbrev pub invariant-loop-barrier : goal.invariant-loop-barrier
 invariant-loop-barrier l =
     AreCounted l.self
-        × (each with_barrier (names_of l.initial.self.names) l.barriers ≡ each with_barrier (names_of l.self.names) (drop l.barrier-index l.barriers))
+    × (each with_barrier (names_of l.initial.self.names) l.barriers ≡ each with_barrier (names_of l.self.names) (drop l.barrier-index l.barriers))

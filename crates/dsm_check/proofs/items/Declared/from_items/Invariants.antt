@@ -8,4 +8,4 @@ use Rattle.dsm_check.proofs.items.Declared.from_items.Given as goal
 abbrev pub invariant-loop-item : goal.invariant-loop-item
 invariant-loop-item l =
     AreCounted l.declared
-        × (file_names (view_items l.items) ≡ each with_item (names_of l.declared.names) (view_items (drop l.item-index l.items)))
+    × (file_names (view_items l.items) ≡ each with_item (names_of l.declared.names) (view_items (drop l.item-index l.items)))

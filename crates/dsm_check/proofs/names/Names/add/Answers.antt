@@ -4,7 +4,7 @@ use Rattle.indexmap.proofs.CallerLemmas.{insert_entry-new}
 use Rattle.dsm_check.specs.declared.names.Named.{Named}
 use Rattle.dsm_check.specs.Environments.{Entry, known, meaning}
 use Rattle.dsm_check.specs.Scopes.{IsFound, shown}
-use Rattle.dsm_check.specs.Numbers.{is_next, is_numbered}
+use Rattle.dsm_check.specs.Numbers.{is_numbered}
 use Rattle.dsm_check.proofs.Tables.{shown-push, found-push}
 use Rattle.dsm_check.proofs.names.Names.add.Goals as goal
 
@@ -28,7 +28,7 @@ invariant_of-self-2 c =
     let key = c.in_ok-from_slice.field-0 in
     let named = c.args.named in
     let absent : meaning (shown text entries) key.items ≡ None
-        = ap (meaning (shown text entries)) c.in_ok-from_slice.ensures.items ∙ c.requires.new in
+    = ap (meaning (shown text entries)) c.in_ok-from_slice.ensures.items ∙ c.requires.new in
     let pushed = insert_entry-new (λ a b. bytes_eq a.items b.items) table.map key named (table.found key.items ∙ absent) in
     let P : List (Vec ℕ Global × Named) → Type 0 = λ es. IsTrue (is_numbered (shown text es)) in
     let Q : List Entry → Type 0 = λ es. IsTrue (is_numbered es) in
@@ -44,8 +44,8 @@ returns c =
     let key = c.in_ok-from_slice.field-0 in
     let named = c.args.named in
     let absent : meaning (shown text table.map.entries) key.items ≡ None
-        = ap (meaning (shown text table.map.entries)) c.in_ok-from_slice.ensures.items ∙ c.requires.new in
+    = ap (meaning (shown text table.map.entries)) c.in_ok-from_slice.ensures.items ∙ c.requires.new in
     let pushed = insert_entry-new (λ a b. bytes_eq a.items b.items) table.map key named (table.found key.items ∙ absent) in
     ap (shown text) (c.in_ok-insert.ensures.entries ∙ pushed)
-        ∙ shown-push text table.map.entries key named
-        ∙ ap (λ name. known name named ∷ shown text table.map.entries) c.in_ok-from_slice.ensures.items
+    ∙ shown-push text table.map.entries key named
+    ∙ ap (λ name. known name named ∷ shown text table.map.entries) c.in_ok-from_slice.ensures.items

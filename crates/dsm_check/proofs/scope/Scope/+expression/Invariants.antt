@@ -8,4 +8,4 @@ use Rattle.dsm_check.proofs.scope.Scope.+expression.Given as goal
 abbrev pub invariant-arguments-loop-argument : goal.invariant-arguments-loop-argument
 invariant-arguments-loop-argument l =
     resolve_all (scope_of l.self).names (tree.views l.arguments)
-        ≡ behind l.made.items (resolve_all (scope_of l.self).names (tree.views (drop l.argument-index l.arguments)))
+    ≡ behind l.made.items (resolve_all (scope_of l.self).names (tree.views (drop l.argument-index l.arguments)))

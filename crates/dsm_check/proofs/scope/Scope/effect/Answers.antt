@@ -15,4 +15,4 @@ returns-in-Call c =
     let P : t.Expression → Type 0 = λ e. Gives view c.call.result (resolve_effect names e) in
     let Q : List Expr → Type 0 = λ all. Gives view c.call.result (resolve_call false names c.in-Call.name (tree.views all)) in
     subst P (sym (ap tree.view c.in-Call.is ∙ shown.view_call c.in-Call.name c.in-Call.arguments))
-        (subst Q c.deref.ensures.value c.call.ensures)
+    (subst Q c.deref.ensures.value c.call.ensures)

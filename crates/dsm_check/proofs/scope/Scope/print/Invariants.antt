@@ -9,4 +9,4 @@ use Rattle.dsm_check.proofs.scope.Scope.print.Given as goal
 abbrev pub invariant-loop-part : goal.invariant-loop-part
 invariant-loop-part l =
     all_made (resolve_part (scope_of l.self).names) (map tree.view_part l.parts)
-        ≡ put (map view_part l.made.items) (all_made (resolve_part (scope_of l.self).names) (map tree.view_part (drop l.part-index l.parts)))
+    ≡ put (map view_part l.made.items) (all_made (resolve_part (scope_of l.self).names) (map tree.view_part (drop l.part-index l.parts)))

@@ -10,6 +10,6 @@ use Rattle.dsm_check.proofs.scope.Scope.variables.Given as goal
 abbrev pub invariant-loop-variable : goal.invariant-loop-variable
 invariant-loop-variable l =
     (1 ≤ blocks_in l.self.locals)
-        × (blocks_in l.self.locals ≡ blocks_in l.initial.self.locals)
-        × (each_made resolve_variable (scope_of l.initial.self) (map tree.view_variable l.variables)
-            ≡ onto (map view_variable l.made.items) (each_made resolve_variable (scope_of l.self) (map tree.view_variable (drop l.variable-index l.variables))))
+    × (blocks_in l.self.locals ≡ blocks_in l.initial.self.locals)
+    × (each_made resolve_variable (scope_of l.initial.self) (map tree.view_variable l.variables)
+    ≡ onto (map view_variable l.made.items) (each_made resolve_variable (scope_of l.self) (map tree.view_variable (drop l.variable-index l.variables))))

@@ -15,8 +15,7 @@ make_turn-requires-clause-names g c =
 
 pub make_turn-requires-clause-answers : goal.make_turn-requires-clause-answers
 make_turn-requires-clause-answers g c =
-    rw c.want-want.ensures.told
-    (label_at_is_for g.T.Task.state g.T.Task.semantics (record c.args.self.now { task = c.want-want.new.self }) c.want-want.result c.in-Some.label (rw c.want-want.ensures.value (c.requires.stays [])) (sym c.in_ok-label.ensures.label ∙ c.in-Some.is)).answers
+    rw c.want-want.ensures.told (label_at_is_for g.T.Task.state g.T.Task.semantics (record c.args.self.now { task = c.want-want.new.self }) c.want-want.result c.in-Some.label (rw c.want-want.ensures.value (c.requires.stays [])) (sym c.in_ok-label.ensures.label ∙ c.in-Some.is)).answers
 
 pub tell_home-requires-clause-names : goal.tell_home-requires-clause-names
 tell_home-requires-clause-names g c =

@@ -2,7 +2,7 @@ use Rattle.std.proofs.Common.{◌∙◌, ap, sym, ℕ, ◌∷◌, ◌++◌, [], 
 use Rattle.std.proofs.lemmas.List.FromFn.{map-range_with_len_more}
 use Rattle.dsm_base.specs.declared.names.Proc.{Proc}
 use Rattle.dsm_picks.specs.Picks.{round_of}
-use Rattle.dsm_picks.proofs.reader.push_round.Goals as goal
+use Rattle.dsm_picks.proofs.picks.unrolled.push_round.Goals as goal
 
 proc_of : ℕ → Proc
 proc_of p = record { 0 = p }
