@@ -8,7 +8,7 @@ use Rattle.dsm_syntax.specs.Tree.{Item}
 use Rattle.dsm_parse.specs.Lexemes.{lexemes}
 use Rattle.dsm_parse.specs.Programs.{IsProgramOf}
 use Rattle.dsm_check.specs.Programs.{Program, checked}
-use Rattle.dsm_check.specs.Setups.{misfit}
+use Rattle.dsm_check.specs.Setups.{fitting}
 use Rattle.dsm_picks.specs.declared.picks.PickEntry.{PickEntry}
 use Rattle.dsm_picks.specs.Entries.{picks_said}
 use Rattle.dsm_small.specs.declared.tree.SmallProgram.{SmallProgram}
@@ -75,7 +75,7 @@ pub record HasChecked (files : Contents) (name : List ℕ) (program : Program) :
 -- and each owner is one of so many processors
 pub record HasFitting (files : Contents) (name : List ℕ) (procs : ℕ) (program : Program) : Type 0 where
   pub has_program : HasChecked files name program
-  pub fits : misfit program procs ≡ None
+  pub fits : fitting program procs ≡ Ok tt
 
 -- the file has a list of picks: for so many processors, these entries
 pub record HasPicks (files : Contents) (name : List ℕ) (procs : ℕ) (entries : List PickEntry) : Type 0 where

@@ -9,6 +9,7 @@ use Rattle.dsm_base.specs.Family.{update}
 use Rattle.dsm_base.specs.Plain.{Turn, plain_turn, after_run}
 use Rattle.dsm_base.specs.Threads.{Semantics}
 use Rattle.dsm_check.specs.Programs.{Program}
+use Rattle.dsm_check.specs.Setups.{IsSetupOf}
 use Rattle.dsm_check.specs.Semantics.{first_state, program_semantics}
 use Rattle.dsm_check.specs.SemanticsItems.{State}
 use Rattle.dsm_trace.specs.Processor.{ending_after}
@@ -35,16 +36,12 @@ endings_of (turn ∷ before) = update (endings_of before) turn.proc (ending_afte
 abbrev pub first_states : Program → ℕ → ℕ → State
 first_states program procs me = first_state program.functions program.main program.private_cells procs me
 
--- so many processors, and what the program declares
-pub record IsSetupOf (program : Program) (procs : ℕ) (setup : Setup) : Type 0 where
-  pub procs_are : setup.procs ≡ procs
-  pub locks_are : setup.locks ≡ program.locks
-  pub bars_are : setup.bars ≡ program.barriers
-  pub cells_are : setup.cells ≡ program.shared_cells
-  pub bindings_are : setup.bindings ≡ program.pieces
+-- the run that picks make of a program that is set up so
+abbrev pub program_run : Program → Setup → List Proc → List Turn
+program_run program setup picks = run_by_picks setup (first_states program setup.procs) (program_semantics program.functions) picks
 
--- the run of a program that picks make
+-- the run that picks make of a program on so many processors
 pub record IsRunByPicks (program : Program) (procs : ℕ) (picks : List Proc) (run : List Turn) : Type 0 where
   pub setup : Setup
   pub is_setup : IsSetupOf program procs setup
-  pub is_run : run ≡ run_by_picks setup (first_states program procs) (program_semantics program.functions) picks
+  pub is_run : run ≡ program_run program setup picks

@@ -4,15 +4,15 @@ use Rattle.std.specs.List.{AllByRecursion}
 use Rattle.dsm_base.specs.Causes.{Rose}
 use Rattle.dsm_trace.specs.Fits.{IsWithin}
 use Rattle.dsm_syntax.specs.declared.errors.ProgErr.{ProgErr}
+use Rattle.dsm_check.specs.declared.checked.Checked.{Checked}
 use Rattle.dsm_check.specs.Programs.{Program}
-use Rattle.dsm_check.specs.Setups.{misfit}
+use Rattle.dsm_check.specs.CheckedViews.{program_of}
+use Rattle.dsm_check.specs.Setups.{fitting}
 use Rattle.dsm_small.specs.Setups.{small_setup}
 use Rattle.dsm_top.specs.declared.status.Status.{Status}
-use Rattle.dsm_top.specs.declared.stub.Checked.{Checked}
 use Rattle.dsm_top.specs.declared.prepare.Prepared.{Prepared}
 use Rattle.dsm_top.specs.declared.prepare.SmallRun.{SmallRun}
 use Rattle.dsm_top.specs.declared.prepare.PickRun.{PickRun}
-use Rattle.dsm_top.specs.Stub.{program_of}
 use Rattle.dsm_top.specs.Command.{Command, run, check, plain}
 use Rattle.dsm_top.specs.Accepted.{Contents, IsAccepted, IsChecked, HasFitting, HasPicks}
 use Rattle.dsm_top.specs.Refusals.{Given, IsUnchecked}
@@ -42,7 +42,7 @@ pub record CanRun (prepared : SmallRun) : Type 0 where
 
 -- a run over one memory can begin: each owner is a processor
 abbrev pub CanPick : PickRun → Type 0
-CanPick prepared = misfit (program_of prepared.program) prepared.picks.procs ≡ None
+CanPick prepared = fitting (program_of prepared.program) prepared.picks.procs ≡ Ok tt
 
 abbrev pub IsReady : Prepared → Type 0
 IsReady (Prepared.Run prepared) = CanRun prepared

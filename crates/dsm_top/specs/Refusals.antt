@@ -2,7 +2,6 @@
 use Rattle.std.specs.Prelude.{◌≡◌, ◌≢◌, ◌⊎◌, ℕ, List, Option, Some, None, Result, Ok, Err, zero, suc}
 use Rattle.dsm_base.specs.Causes.{Rose}
 use Rattle.dsm_base.specs.declared.act.SchedErr.{SchedErr}
-use Rattle.dsm_base.specs.declared.setup.Piece.{Piece}
 use Rattle.dsm_syntax.specs.declared.errors.ProgErr.{ProgErr}
 use Rattle.dsm_syntax.specs.declared.token.Token.{Token}
 use Rattle.dsm_syntax.specs.Texts.{IsLexed, IsRefused as IsTextRefused}
@@ -11,7 +10,7 @@ use Rattle.dsm_parse.specs.Lexemes.{lexemes}
 use Rattle.dsm_parse.specs.Programs.{IsProgramOf}
 use Rattle.dsm_parse.specs.Refusals.{IsRefused as AreTokensRefused}
 use Rattle.dsm_check.specs.Programs.{Program, checked}
-use Rattle.dsm_check.specs.Setups.{misfit}
+use Rattle.dsm_check.specs.Setups.{fitting}
 use Rattle.dsm_picks.specs.declared.picks.PickEntry.{PickEntry}
 use Rattle.dsm_picks.specs.Entries.{picks_said}
 use Rattle.dsm_small.specs.declared.tree.SmallProgram.{SmallProgram}
@@ -102,8 +101,7 @@ RefusesPicks given name _ = ⊥
 
 -- an owner is no processor; the first such is told
 abbrev pub RefusesOwner : Program → ℕ → Status → Type 0
-RefusesOwner program procs (Status.ProgramRefused error) =
-    (piece : Piece) × (misfit program procs ≡ Some piece) × (error ≡ ProgErr.BindOwner piece.owner procs)
+RefusesOwner program procs (Status.ProgramRefused error) = fitting program procs ≡ Err error
 RefusesOwner program procs _ = ⊥
 
 -- first the program, then the owners

@@ -1,28 +1,13 @@
--- Stands for what dsm_check and dsm_plain don't have yet.
-use Rattle.std.specs.Prelude.{◌≡◌, ℕ, ◌<◌, map, None, Some}
+-- Stands for what dsm_plain doesn't have yet.
+use Rattle.std.specs.Prelude.{◌≡◌, ℕ, ◌<◌, None, Some}
 use Rattle.dsm_base.specs.declared.setup.Setup.{Setup}
 use Rattle.dsm_base.specs.Plain.{PlainState, plain_start, plain_turn, plain_after}
 use Rattle.dsm_base.specs.Threads.{Semantics}
-use Rattle.dsm_check.specs.Programs.{Program}
-use Rattle.dsm_check.specs.FileTables.{names_of}
+use Rattle.dsm_check.specs.CheckedViews.{program_of}
 use Rattle.dsm_check.specs.SemanticsItems.{State}
-use Rattle.dsm_check.specs.Views.{view_function}
-use Rattle.dsm_top.specs.declared.stub.Checked.{Checked}
 use Rattle.dsm_top.specs.declared.stub.Plain.{Plain}
 use Rattle.dsm_top.specs.declared.stub.Picked.{Picked}
 use Rattle.dsm_top.specs.PickRuns.{first_states}
-
-abbrev pub program_of : Checked → Program
-program_of checked = record {
-  names = names_of checked.names;
-  main = checked.main;
-  shared_cells = checked.shared_cells;
-  private_cells = checked.private_cells;
-  locks = checked.locks;
-  barriers = checked.barriers;
-  pieces = checked.pieces;
-  functions = map view_function checked.functions.items;
-}
 
 pub machine_of : Plain → PlainState State
 machine_of plain = plain_start (first_states (program_of plain.checked.now) plain.setup.procs)

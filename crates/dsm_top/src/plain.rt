@@ -1,31 +1,35 @@
 //! The run of a program over one memory, by a list of picks.
 
-ghost use Rattle.std.specs.Prelude.{◌≡◌, ◌≤◌, ◌<◌, ◌⊎◌, ◌+◌, [], ◌++◌, length, reverse, List, None, IsTrue, OnOk, IfOk, IfErr};
+ghost use Rattle.std.specs.Prelude.{◌≡◌, ◌≤◌, ◌<◌, ◌⊎◌, ◌+◌, [], ◌++◌, length, reverse, take, List, IsTrue, Ok, OnOk, IfOk, IfErr};
 ghost use Rattle.dsm_base.specs.Causes.{HasCause};
 ghost use Rattle.dsm_base.specs.Family.{update};
 ghost use Rattle.dsm_base.specs.Output.{printed_lines};
 ghost use Rattle.dsm_base.specs.Plain.{Turn};
+ghost use Rattle.dsm_base.specs.declared.setup.Setup.{Setup};
 ghost use Rattle.dsm_base.specs.Setups.{is_proc_count};
 ghost use Rattle.dsm_base.specs.Sink.{appended};
 ghost use Rattle.dsm_trace.specs.Processor.{ending_after};
 ghost use Rattle.dsm_world.specs.Finished.{finished_by};
-ghost use Rattle.dsm_check.specs.Setups.{misfit};
+ghost use Rattle.dsm_check.specs.Programs.{Program};
+ghost use Rattle.dsm_check.specs.CheckedViews.{program_of};
+ghost use Rattle.dsm_check.specs.Setups.{IsSetupOf, fitting};
 ghost use Rattle.dsm_picks.specs.Entries.{picked};
 ghost use Rattle.dsm_top.specs.Ended.{RanPlain};
-ghost use Rattle.dsm_top.specs.PickRuns.{endings_of, IsSetupOf};
+ghost use Rattle.dsm_top.specs.PickRuns.{endings_of, program_run};
 ghost use Rattle.dsm_top.specs.Prepared.{CanPick};
 ghost use Rattle.dsm_top.specs.Runs.{WroteCut};
-ghost use Rattle.dsm_top.specs.Stub.{program_of, machine_of, AreFew};
-ghost use Rattle.dsm_top.specs.PlainRuns.{endings_in, turns_by, picked_next, IsAt, IsSameMachine};
+ghost use Rattle.dsm_top.specs.Stub.{machine_of, AreFew};
+ghost use Rattle.dsm_top.specs.PlainRuns.{endings_in, program_in, next_turns, IsAt};
 
 use crate::message::Line;
 use crate::output::put_all;
 use crate::prepare::PickRun;
 use crate::run::status_of;
 use crate::status::{Report, Status};
-use crate::stub::{Checked, Picked, Plain};
+use crate::stub::{Picked, Plain};
 use crate::turn::turn_line;
 use dsm_base::{Ending, Label, MemFault, Proc, ReadErr, Sink};
+use dsm_check::Checked;
 use dsm_picks::Picks;
 use dsm_world::Finished;
 use std::alloc::Global;
@@ -91,10 +95,9 @@ impl<'a> PlainRun<'a> {
     /// A run of a program before the first pick.
     fn start(alloc: Global, program: &'a Checked, procs: u8) -> Result<PlainRun<'a>, MemFault>
         requires procs { IsTrue (is_proc_count procs) }
-        requires fits { misfit (program_of program.now) procs ≡ None }
-        ensures program { IfOk result (λ run. program_of run.machine.checked.now ≡ program_of program.now) }
+        requires fits { fitting (program_of program.now) procs ≡ Ok tt }
         ensures setup { IfOk result (λ run. IsSetupOf (program_of program.now) procs run.machine.setup) }
-        ensures at { IfOk result (λ run. IsAt run []) }
+        ensures at { IfOk result (λ run. IsAt (program_of program.now) run.machine.setup run []) }
         ensures units { IfOk result (λ run. run.units ≡ 0) }
     {
         Ok(PlainRun {
@@ -107,11 +110,11 @@ impl<'a> PlainRun<'a> {
     /// Applies a pick, and gives the line that it prints, if any. For want of memory no pick is counted.
     fn pick(&mut self, alloc: Global, proc: Proc) -> Result<Line, MemFault>
         requires processor { proc.0 < self.old.machine.setup.procs }
+        requires endings { length self.old.endings.list.items ≡ self.old.machine.setup.procs }
         requires few { AreFew (machine_of self.old.machine) }
         requires count { self.old.units < 500000 }
-        ensures same { IsSameMachine self.old self.new }
-        ensures at { (turns : List Turn) → IsAt self.old turns → OnOk result (IsAt self.new (picked_next self.old turns proc)) }
-        ensures line { (turns : List Turn) → IsAt self.old turns → IfOk result (λ line. printed_lines (picked_next self.old turns proc) ≡ printed_lines turns ++ line) }
+        ensures at { (program : Program) (setup : Setup) (turns : List Turn) → IsAt program setup self.old turns → OnOk result (IsAt program setup self.new (next_turns program setup turns proc)) }
+        ensures line { (program : Program) (setup : Setup) (turns : List Turn) → IsAt program setup self.old turns → IfOk result (λ line. printed_lines (next_turns program setup turns proc) ≡ printed_lines turns ++ line) }
         ensures units { OnOk result (self.new.units ≡ self.old.units + 1) }
         ensures err { IfErr result (λ _. self.new.units ≡ self.old.units) }
     {
@@ -135,18 +138,17 @@ fn apply_picks<K: Sink>(
     picks: &Picks,
     out: &mut K,
 ) -> Result<(), ReadErr>
-    requires at { IsAt run.old [] }
+    requires at { IsAt (program_in run.old) run.old.machine.setup run.old [] }
     requires procs { run.old.machine.setup.procs ≡ picks.now.procs }
     requires no_units { run.old.units ≡ 0 }
-    ensures same { IsSameMachine run.old run.new }
     ensures count { run.new.units ≤ length (picked picks.now) }
     ensures all { OnOk result (run.new.units ≡ length (picked picks.now)) }
-    ensures at { OnOk result (IsAt run.new (turns_by run.new (picked picks.now))) }
-    ensures wrote { OnOk result (K.sink_holds out.new ≡ appended (K.sink_holds out.old) (printed_lines (turns_by run.new (picked picks.now)))) }
-    ensures cut { IfErr result (WroteCut (K.sink_holds out.old) (K.sink_holds out.new) (printed_lines (turns_by run.new (picked picks.now)))) }
+    ensures at { OnOk result (IsAt (program_in run.old) run.old.machine.setup run.new (program_run (program_in run.old) run.old.machine.setup (take run.new.units (picked picks.now)))) }
+    ensures wrote { OnOk result (K.sink_holds out.new ≡ appended (K.sink_holds out.old) (printed_lines (program_run (program_in run.old) run.old.machine.setup (take run.new.units (picked picks.now))))) }
+    ensures cut { IfErr result (WroteCut (K.sink_holds out.old) (K.sink_holds out.new) (printed_lines (program_run (program_in run.old) run.old.machine.setup (take run.new.units (picked picks.now))))) }
     ensures cause { HasCause (K.sink_faults out.old) (K.sink_faults out.new) result }
 {
-    while let Some(proc) = picks.pick(run.units) {
+    'picks: while let Some(proc) = picks.pick(run.units) {
         let line = run.pick(alloc, proc)?;
         put_all(out, line.as_slice())?;
     }

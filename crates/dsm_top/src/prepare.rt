@@ -1,20 +1,20 @@
 //! What stands before a run: programs, schedules and lists of picks from their files.
 
-ghost use Rattle.std.specs.Prelude.{◌≡◌, ◌≤◌, ℕ, List, None, Some, string_bytes, option_map, IfOk, IfErr, MatchResult};
+ghost use Rattle.std.specs.Prelude.{◌≡◌, ◌≤◌, ℕ, List, Some, Ok, string_bytes, option_map, IfOk, IfErr, MatchResult};
 ghost use Rattle.dsm_base.specs.Files.{Reads};
-ghost use Rattle.dsm_check.specs.Setups.{misfit};
+ghost use Rattle.dsm_check.specs.CheckedViews.{program_of};
+ghost use Rattle.dsm_check.specs.Setups.{fitting};
 ghost use Rattle.dsm_small.specs.declared.tree.SmallProgram.{SmallProgram};
 ghost use Rattle.dsm_top.specs.Accepted.{IsText, HasProgram, HasSchedule, IsAccepted, HasChecked, HasFitting, HasPicks};
 ghost use Rattle.dsm_top.specs.Command.{command_in};
 ghost use Rattle.dsm_top.specs.Refusals.{Given, RefusesRun, RefusesProgram, RefusesPicks, RefusesOwner, RefusesCheck, RefusesPlain, OrMemory, RefusesOrMemory};
 ghost use Rattle.dsm_top.specs.Prepared.{IsUnread, IsPart, CanRun, CanPick, IsReady, IsPrepared};
-ghost use Rattle.dsm_top.specs.Stub.{program_of};
 
 use crate::command::Command;
 use crate::program::{read_checked, read_program};
 use crate::status::Status;
-use crate::stub::{Checked, fit};
 use dsm_base::{Files, ReadErr, SchedErr};
+use dsm_check::{Checked, fit};
 use dsm_picks::{Picks, read_picks};
 use dsm_sched::{MOST_BYTES, Schedule, read_schedule};
 use dsm_small::SmallProgram;
@@ -106,7 +106,7 @@ fn checked_of<F: Files>(alloc: Global, name: &String, files: &mut F) -> Result<C
 {
     let text = read_text(alloc, files, name, MOST_TEXT, 0)?;
     match read_checked(alloc, text.as_slice()) {
-        Ok(program) => Ok(program),
+        Ok(checked) => Ok(checked),
         Err(ProgErr::Memory) => Err(Status::Memory),
         Err(error) => Err(Status::ProgramRefused(error)),
     }
@@ -129,7 +129,7 @@ fn picks_of<F: Files>(alloc: Global, name: &String, files: &mut F) -> Result<Pic
 
 /// Tests that each owner is one of so many processors.
 fn test_owners(program: &Checked, procs: u8) -> Result<(), Status>
-    ensures { MatchResult result (λ _. misfit (program_of program.now) procs ≡ None) (RefusesOwner (program_of program.now) procs) }
+    ensures { MatchResult result (λ _. fitting (program_of program.now) procs ≡ Ok tt) (RefusesOwner (program_of program.now) procs) }
 {
     match fit(program, procs) {
         Ok(()) => Ok(()),

@@ -3,7 +3,7 @@
 ghost use Rattle.dsm_top.specs.Refusals.{IsReadProgram};
 ghost use Rattle.dsm_top.specs.Prepared.{GivesProgram};
 
-use crate::stub::{Checked, check};
+use dsm_check::{Checked, check};
 use dsm_parse::parse;
 use dsm_small::{SmallProgram, read_small};
 use dsm_syntax::{ProgErr, lex};
