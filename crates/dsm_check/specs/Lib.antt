@@ -1,11 +1,5 @@
 pub mod Resolved
 pub mod Views
-pub mod SemanticsValues
-pub mod SemanticsSteps
-pub mod SemanticsItems
-pub mod SemanticsWeights
-pub mod Semantics
-pub mod SemanticsWithin
 pub mod Environments
 pub mod Checks
 pub mod FileNames
@@ -16,8 +10,14 @@ pub mod Setups
 pub mod Answers
 pub mod Accepted
 pub mod CheckedViews
-pub mod Tables
+pub mod Scopes
 pub mod Numbers
 pub mod Overlaps
 pub mod FileTables
 pub mod BodyTables
+pub mod SemanticsValues
+pub mod SemanticsSteps
+pub mod SemanticsItems
+pub mod SemanticsWeights
+pub mod Semantics
+pub mod SemanticsWithin
