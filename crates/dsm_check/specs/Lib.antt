@@ -1,0 +1,17 @@
+pub mod Resolved
+pub mod Views
+pub mod Environments
+pub mod Checks
+pub mod FileNames
+pub mod Bindings
+pub mod Bodies
+pub mod Programs
+pub mod Setups
+pub mod Answers
+pub mod Accepted
+pub mod CheckedViews
+pub mod Tables
+pub mod Numbers
+pub mod Overlaps
+pub mod FileTables
+pub mod BodyTables
