@@ -10,14 +10,8 @@ pub mod Setups
 pub mod Answers
 pub mod Accepted
 pub mod CheckedViews
-pub mod Scopes
+pub mod Tables
 pub mod Numbers
 pub mod Overlaps
 pub mod FileTables
 pub mod BodyTables
-pub mod SemanticsValues
-pub mod SemanticsSteps
-pub mod SemanticsItems
-pub mod SemanticsWeights
-pub mod Semantics
-pub mod SemanticsWithin

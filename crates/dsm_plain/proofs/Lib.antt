@@ -1,4 +1,0 @@
-pub mod Values
-pub mod Tops
-pub mod Moves
-pub mod Finishing

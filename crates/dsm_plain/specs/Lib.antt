@@ -1,3 +1,0 @@
-pub mod Threads
-pub mod Sound
-pub mod Finished
