@@ -25,7 +25,7 @@ const FIRST: &str =
 const SECOND: &str =
     "procs 2\nstep 1\ndeliver 1 0\ndeliver 0 1\nstep 1 7\nstep 0\ndeliver 1 0\nstep 0 7\n";
 
-fn named(alloc: Global, name: &str, contents: &[u8]) -> Result<NamedFile, Fail> {
+pub fn named(alloc: Global, name: &str, contents: &[u8]) -> Result<NamedFile, Fail> {
     Ok(NamedFile {
         name: Text::from_slice(alloc, name.as_bytes())?,
         contents: Text::from_slice(alloc, contents)?,
@@ -40,7 +40,7 @@ fn files(alloc: Global, program: &[u8], schedule: &[u8]) -> Result<MemFiles, Fai
     Ok(MemFiles::new(alloc, files))
 }
 
-fn words(alloc: Global, text: &str) -> Result<Vec<String>, Fail> {
+pub fn words(alloc: Global, text: &str) -> Result<Vec<String>, Fail> {
     let mut words = Vec::new(alloc);
     for word in text.split_whitespace() {
         words.push(String::from_str(alloc, word)?)?;

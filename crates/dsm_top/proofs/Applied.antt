@@ -25,7 +25,7 @@ front_whole before after bytes is =
 pub front_part : (before after : Option (List ℕ)) (bytes : List ℕ) → TakesPart before after bytes → TakesFront before after bytes
 front_part before after bytes part = record { count = part.count; taken = part.taken }
 
-part_cut : (before after : Option (List ℕ)) (bytes : List ℕ) (e : ReadErr) → TakesPart before after bytes → WroteCut before after bytes e
+pub part_cut : (before after : Option (List ℕ)) (bytes : List ℕ) (e : ReadErr) → TakesPart before after bytes → WroteCut before after bytes e
 part_cut before after bytes ReadErr.Failed part = part
 part_cut before after bytes ReadErr.Memory part = front_part before after bytes part
 

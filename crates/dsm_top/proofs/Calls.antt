@@ -1,13 +1,14 @@
 -- What a refusal leaves.
-use Rattle.std.specs.Prelude.{◌≡◌, ℕ, List, [], reverse, Option}
+use Rattle.std.specs.Prelude.{◌≡◌, ℕ, true, false, if◌then◌else◌, List, [], reverse, Option, Some, None}
 use Rattle.std.proofs.Common.{refl, sym, ap, ◌∙◌, subst, inl, inr}
 use Rattle.dsm_base.specs.Causes.{Rose}
 use Rattle.dsm_base.specs.Sink.{appended, TakesPart}
 use Rattle.dsm_top.specs.declared.status.Status.{Status}
 use Rattle.dsm_top.specs.declared.status.Report.{Report}
-use Rattle.dsm_top.specs.Command.{FileNames}
-use Rattle.dsm_top.specs.Messages.{message_of, message_line, refusal_text}
-use Rattle.dsm_top.specs.Refusals.{Given, Refuses, RefusesOrMemory}
+use Rattle.dsm_check.specs.Programs.{Program}
+use Rattle.dsm_top.specs.Command.{Command, run, check, plain}
+use Rattle.dsm_top.specs.Messages.{message_of, message_line, refusal_text, is_refusal}
+use Rattle.dsm_top.specs.Refusals.{Given, RefusesRun, RefusesProgram, RefusesPicks, RefusesOwner, RefusesCommand, Refuses, RefusesOrMemory}
 use Rattle.dsm_top.specs.Ended.{Left, RefusedWhole, RefusedBy, RefusedCut, RefusedShort, Ended}
 
 -- a refusal that is no want of memory has a cause
@@ -22,33 +23,53 @@ refuses given (Status.ReadFault file) not_memory is = is
 refuses given Status.WriteFault not_memory is = is
 refuses given Status.Memory not_memory is = absurd (not_memory refl)
 
+-- What refuses is a refusal.
+
+only_run : (given : Given) (program schedule : List ℕ) (status : Status) → RefusesRun given program schedule status → is_refusal status ≡ true
+only_run given program schedule (Status.ProgramRefused error) is = refl
+only_run given program schedule (Status.ScheduleRefused error) is = refl
+only_run given program schedule (Status.ReadFault file) is = refl
+only_run given program schedule _ is = absurd is
+
+only_program : (given : Given) (name : List ℕ) (status : Status) → RefusesProgram given name status → is_refusal status ≡ true
+only_program given name (Status.ProgramRefused error) is = refl
+only_program given name (Status.ReadFault file) is = refl
+only_program given name _ is = absurd is
+
+only_picks : (given : Given) (name : List ℕ) (status : Status) → RefusesPicks given name status → is_refusal status ≡ true
+only_picks given name (Status.ScheduleRefused error) is = refl
+only_picks given name (Status.ReadFault file) is = refl
+only_picks given name _ is = absurd is
+
+only_owner : (program : Program) (procs : ℕ) (status : Status) → RefusesOwner program procs status → is_refusal status ≡ true
+only_owner program procs (Status.ProgramRefused error) is = refl
+only_owner program procs _ is = absurd is
+
+only_command : (given : Given) (status : Status) (command : Option Command) → RefusesCommand given status command → is_refusal status ≡ true
+only_command given status None is = ap is_refusal is
+only_command given status (Some (run program schedule)) is = only_run given program schedule status is
+only_command given status (Some (check program procs)) (inl is) = only_program given program status is
+only_command given status (Some (check program procs)) (inr is) = only_owner is.0 procs status is.2
+only_command given status (Some (plain program picks)) (inl is) = only_program given program status is
+only_command given status (Some (plain program picks)) (inr (found, has, inl is)) = only_picks given picks status is
+only_command given status (Some (plain program picks)) (inr (found, has, inr is)) = only_owner found is.procs status is.refused
+
+refusal : (given : Given) (status : Status) → Refuses given status → is_refusal status ≡ true
+refusal given status is = only_command given status given.command is
+
 -- it has a message
-has_message : (given : Given) (status : Status) → Refuses given status → message_of given.names status ≡ message_line (refusal_text given.names status)
-has_message given Status.Done is = absurd is
-has_message given Status.Stopped is = absurd is
-has_message given Status.Unfinished is = absurd is
-has_message given (Status.ProgramRefused error) is = refl
-has_message given (Status.ScheduleRefused error) is = refl
-has_message given Status.WordsRefused is = refl
-has_message given (Status.ReadFault file) is = refl
-has_message given Status.WriteFault is = absurd is
-has_message given Status.Memory is = absurd is
+has_message : (given : Given) (status : Status) → Refuses given status → message_of given.command status ≡ message_line (refusal_text given.command status)
+has_message given status is = ap (λ refused. if refused then message_line (refusal_text given.command status) else []) (refusal given status is)
 
 by_status : (given : Given) (left : Left) (status : Status) → RefusedWhole given left status → RefusedBy given left status
-by_status given left Status.Done whole = whole
-by_status given left Status.Stopped whole = whole
-by_status given left Status.Unfinished whole = whole
-by_status given left (Status.ProgramRefused error) whole = whole
-by_status given left (Status.ScheduleRefused error) whole = whole
-by_status given left Status.WordsRefused whole = whole
-by_status given left (Status.ReadFault file) whole = whole
-by_status given left Status.WriteFault whole = absurd whole.cause
-by_status given left Status.Memory whole = absurd whole.cause
+by_status given left Status.WriteFault whole = let no : false ≡ true = refusal given Status.WriteFault whole.cause in absurd (cc)
+by_status given left Status.Memory whole = let no : false ≡ true = refusal given Status.Memory whole.cause in absurd (cc)
+by_status given left _ whole = whole
 
 module _ (given : Given) (left : Left) (status : Status) (not_memory : status ≡ Status.Memory → ⊥) (is : RefusesOrMemory given status)
-    (names : Option FileNames) (same : given.names ≡ names) (line : List ℕ) (message : line ≡ message_line (refusal_text names status)) where
-  is_message : line ≡ message_of given.names status
-  is_message = message ∙ (ap (λ files. message_line (refusal_text files status)) (sym same) ∙ sym (has_message given status (refuses given status not_memory is)))
+    (command : Option Command) (same : given.command ≡ command) (line : List ℕ) (message : line ≡ message_line (refusal_text command status)) where
+  is_message : line ≡ message_of given.command status
+  is_message = message ∙ (ap (λ one. message_line (refusal_text one status)) (sym same) ∙ sym (has_message given status (refuses given status not_memory is)))
 
   pub refused_whole : left.after ≡ appended left.before line → RefusedBy given left status
   refused_whole wrote = by_status given left status record {

@@ -1,13 +1,21 @@
 -- What the tokens of a text tell of it.
-use Rattle.std.specs.Prelude.{◌≡◌, ℕ, List, Result, Ok, Err}
+use Rattle.std.specs.Prelude.{◌≡◌, ◌≢◌, ◌⊎◌, ℕ, List, Result, Ok, Err, IfOk, IfErr}
 use Rattle.std.proofs.Common.{inl, inr, subst, sym}
 use Rattle.dsm_syntax.specs.declared.token.Token.{Token}
 use Rattle.dsm_syntax.specs.declared.errors.ProgErr.{ProgErr}
-use Rattle.dsm_syntax.specs.Texts.{IsLexed, IsAnswer}
+use Rattle.dsm_syntax.specs.Texts.{IsLexed, IsAnswer, IsRefused as IsTextRefused}
+use Rattle.dsm_syntax.specs.Tree.{Item}
+use Rattle.dsm_parse.specs.Lexemes.{lexemes}
+use Rattle.dsm_parse.specs.Programs.{IsProgramOf}
+use Rattle.dsm_parse.specs.Refusals.{IsRefused as AreTokensRefused}
+use Rattle.dsm_check.specs.declared.checked.Checked.{Checked}
+use Rattle.dsm_check.specs.CheckedViews.{program_of}
+use Rattle.dsm_check.specs.Programs.{checked}
 use Rattle.dsm_small.specs.declared.tree.SmallProgram.{SmallProgram}
 use Rattle.dsm_small.specs.Spelling.{IsSpelled}
 use Rattle.dsm_small.specs.Reader.{IsAnswerTo}
-use Rattle.dsm_top.specs.Refusals.{IsNoProgram, IsReadProgram}
+use Rattle.dsm_top.specs.Refusals.{IsNoProgram, IsReadProgram, IsUnchecked, by_tokens, by_tree, by_rules}
+use Rattle.dsm_top.specs.Prepared.{GivesProgram}
 
 same_tokens : (result : Result (List Token) ProgErr) (tokens other : List Token) → result ≡ Ok tokens → IsAnswer result (Ok other) → tokens ≡ other
 same_tokens result tokens other is (inl answer) = cc (is, answer)
@@ -26,3 +34,28 @@ read_text text result tokens (Ok program) is lexed only answers = record { token
 read_text text result tokens (Err (ProgErr.NotBuilt line)) is lexed only answers = (answers.0, no_program text result tokens is only answers.1)
 read_text text result tokens (Err ProgErr.Memory) is lexed only answers = tt
 read_text text result tokens (Err _) is lexed only answers = absurd answers
+
+-- Programs of the whole language.
+
+pub gives_refusal : (text : List ℕ) (error : ProgErr) → (error ≢ ProgErr.Memory → IsUnchecked text error) → GivesProgram text (Err error)
+gives_refusal text ProgErr.Memory is = tt
+gives_refusal text error is = is (λ memory. cc)
+
+pub no_tokens : (text : List ℕ) (error : ProgErr) → (error ≡ ProgErr.Memory) ⊎ IsTextRefused text error → GivesProgram text (Err error)
+no_tokens text error (inl memory) = gives_refusal text error (λ not_memory. absurd (not_memory memory))
+no_tokens text error (inr refused) = gives_refusal text error (λ not_memory. by_tokens refused)
+
+pub no_tree : (text : List ℕ) (tokens : List Token) (error : ProgErr) → IsLexed text tokens → AreTokensRefused tokens error → GivesProgram text (Err error)
+no_tree text tokens error lexed refused = gives_refusal text error (λ not_memory. by_tree tokens lexed not_memory refused)
+
+pub no_rules : (text : List ℕ) (tokens : List Token) (items : List Item) (error : ProgErr) → IsLexed text tokens → IsProgramOf (lexemes tokens) items → (error ≡ ProgErr.Memory) ⊎ (checked items ≡ Err error)
+    → GivesProgram text (Err error)
+no_rules text tokens items error lexed spelled (inl memory) = gives_refusal text error (λ not_memory. absurd (not_memory memory))
+no_rules text tokens items error lexed spelled (inr refused) = gives_refusal text error (λ not_memory. by_rules tokens items lexed spelled refused)
+
+-- an answer of the rules is one for the text
+pub rules_say : (text : List ℕ) (tokens : List Token) (items : List Item) (answer : Result Checked ProgErr) → IsLexed text tokens → IsProgramOf (lexemes tokens) items
+    → IfOk answer (λ program. checked items ≡ Ok (program_of program)) → IfErr answer (λ error. (error ≡ ProgErr.Memory) ⊎ (checked items ≡ Err error)) → GivesProgram text answer
+rules_say text tokens items (Ok program) lexed spelled accepted refused =
+    record { tokens = tokens; lexed = lexed; items = items; spelled = spelled; is_checked = accepted }
+rules_say text tokens items (Err error) lexed spelled accepted refused = no_rules text tokens items error lexed spelled refused

@@ -1,17 +1,37 @@
--- Which programs and schedules are run.
-use Rattle.std.specs.Prelude.{◌≡◌, ℕ, List, [], Option, Some}
+-- Which programs, schedules and lists of picks are run.
+use Rattle.std.specs.Prelude.{◌≡◌, ℕ, List, [], Option, Some, None, Ok}
 use Rattle.dsm_base.specs.Files.{Reads}
 use Rattle.dsm_base.specs.declared.act.Act.{Act}
 use Rattle.dsm_syntax.specs.declared.token.Token.{Token}
 use Rattle.dsm_syntax.specs.Texts.{IsLexed}
+use Rattle.dsm_syntax.specs.Tree.{Item}
+use Rattle.dsm_parse.specs.Lexemes.{lexemes}
+use Rattle.dsm_parse.specs.Programs.{IsProgramOf}
+use Rattle.dsm_check.specs.Programs.{Program, checked}
+use Rattle.dsm_check.specs.Setups.{fitting}
+use Rattle.dsm_picks.specs.declared.picks.PickEntry.{PickEntry}
+use Rattle.dsm_picks.specs.Entries.{picks_said}
 use Rattle.dsm_small.specs.declared.tree.SmallProgram.{SmallProgram}
 use Rattle.dsm_small.specs.Spelling.{IsSpelled}
 use Rattle.dsm_sched.specs.Entries.{units_of_text}
-use Rattle.dsm_top.specs.Command.{FileNames}
+
+-- what files hold, where they tell
+abbrev pub Contents : Type 0
+Contents = Option (List ℕ → Option (List ℕ))
 
 -- a text that is read from a file; of a longer file than wanted it is one byte too long
-abbrev pub IsText : Option (List ℕ → Option (List ℕ)) → List ℕ → ℕ → List ℕ → Type 0
+abbrev pub IsText : Contents → List ℕ → ℕ → List ℕ → Type 0
 IsText files name most text = Reads files name most [] text
+
+-- the text of a program
+abbrev pub IsProgramText : Contents → List ℕ → List ℕ → Type 0
+IsProgramText files name text = IsText files name 262144 text
+
+-- the text of a schedule or of a list of picks
+abbrev pub IsScheduleText : Contents → List ℕ → List ℕ → Type 0
+IsScheduleText files name text = IsText files name 4194304 text
+
+-- What `run` takes.
 
 -- the tokens of a text are those of a small program
 pub record IsProgram (text : List ℕ) (program : SmallProgram) : Type 0 where
@@ -19,31 +39,46 @@ pub record IsProgram (text : List ℕ) (program : SmallProgram) : Type 0 where
   pub lexed : IsLexed text tokens
   pub spelled : IsSpelled tokens program
 
--- the words name two files, and this is read from the first
-pub record IsProgramText (names : Option FileNames) (files : Option (List ℕ → Option (List ℕ))) (text : List ℕ) : Type 0 where
-  pub two : FileNames
-  pub are_named : names ≡ Some two
-  pub is_text : IsText files two.program 262144 text
-
--- and it is a program
-pub record HasProgram (names : Option FileNames) (files : Option (List ℕ → Option (List ℕ))) (program : SmallProgram) : Type 0 where
+-- the file has a small program
+pub record HasProgram (files : Contents) (name : List ℕ) (program : SmallProgram) : Type 0 where
   pub text : List ℕ
-  pub is_read : IsProgramText names files text
+  pub is_read : IsProgramText files name text
   pub is_program : IsProgram text program
 
--- the words name two files, and this is read from the second
-pub record IsScheduleText (names : Option FileNames) (files : Option (List ℕ → Option (List ℕ))) (text : List ℕ) : Type 0 where
-  pub two : FileNames
-  pub are_named : names ≡ Some two
-  pub is_text : IsText files two.schedule 4194304 text
-
--- and it is a schedule of these units
-pub record HasSchedule (names : Option FileNames) (files : Option (List ℕ → Option (List ℕ))) (schedule : List Act) : Type 0 where
+-- the file has a schedule of these units
+pub record HasSchedule (files : Contents) (name : List ℕ) (schedule : List Act) : Type 0 where
   pub text : List ℕ
-  pub is_read : IsScheduleText names files text
+  pub is_read : IsScheduleText files name text
   pub is_schedule : units_of_text text ≡ Some schedule
 
 -- the first file has a program, and the second a schedule
-pub record IsAccepted (names : Option FileNames) (files : Option (List ℕ → Option (List ℕ))) (program : SmallProgram) (schedule : List Act) : Type 0 where
-  pub has_program : HasProgram names files program
-  pub has_schedule : HasSchedule names files schedule
+pub record IsAccepted (files : Contents) (program_name schedule_name : List ℕ) (program : SmallProgram) (schedule : List Act) : Type 0 where
+  pub has_program : HasProgram files program_name program
+  pub has_schedule : HasSchedule files schedule_name schedule
+
+-- What `check` and `plain` take.
+
+-- the tokens of a text spell a tree, which by the rules is this program
+pub record IsChecked (text : List ℕ) (program : Program) : Type 0 where
+  pub tokens : List Token
+  pub lexed : IsLexed text tokens
+  pub items : List Item
+  pub spelled : IsProgramOf (lexemes tokens) items
+  pub is_checked : checked items ≡ Ok program
+
+-- the file has a program that the rules accept
+pub record HasChecked (files : Contents) (name : List ℕ) (program : Program) : Type 0 where
+  pub text : List ℕ
+  pub is_read : IsProgramText files name text
+  pub is_program : IsChecked text program
+
+-- and each owner is one of so many processors
+pub record HasFitting (files : Contents) (name : List ℕ) (procs : ℕ) (program : Program) : Type 0 where
+  pub has_program : HasChecked files name program
+  pub fits : fitting program procs ≡ Ok tt
+
+-- the file has a list of picks: for so many processors, these entries
+pub record HasPicks (files : Contents) (name : List ℕ) (procs : ℕ) (entries : List PickEntry) : Type 0 where
+  pub text : List ℕ
+  pub is_read : IsScheduleText files name text
+  pub are_picks : picks_said text ≡ Ok (procs, entries)

@@ -1,10 +1,15 @@
 -- How a call ended, and what it left.
-use Rattle.std.specs.Prelude.{◌≡◌, ◌⊎◌, ℕ, ◌≤◌, List, [], ◌∷◌, ◌++◌, length, take, reverse, Option, refl}
+use Rattle.std.specs.Prelude.{◌≡◌, ◌⊎◌, ℕ, ◌≤◌, List, [], ◌∷◌, ◌++◌, length, take, reverse, Option, Some, None, codes, refl}
 use Rattle.dsm_base.specs.Causes.{Rose}
 use Rattle.dsm_base.specs.Output.{printed_lines}
 use Rattle.dsm_base.specs.Sink.{appended, TakesPart}
 use Rattle.dsm_base.specs.declared.act.Act.{Act}
 use Rattle.dsm_base.specs.declared.label.Ending.{Ending}
+use Rattle.dsm_base.specs.declared.names.Proc.{Proc}
+use Rattle.dsm_base.specs.Plain.{Turn}
+use Rattle.dsm_check.specs.Programs.{Program}
+use Rattle.dsm_picks.specs.declared.picks.PickEntry.{PickEntry}
+use Rattle.dsm_picks.specs.Picks.{picked_by}
 use Rattle.dsm_trace.specs.declared.trace.Group.{Group}
 use Rattle.dsm_trace.specs.Fits.{FitsUnits}
 use Rattle.dsm_trace.specs.History.{history, deeds_of, ending_of}
@@ -15,8 +20,10 @@ use Rattle.dsm_small.specs.Setups.{small_setup}
 use Rattle.dsm_world.specs.declared.world.Finished.{Finished}
 use Rattle.dsm_world.specs.Finished.{finished_by}
 use Rattle.dsm_top.specs.declared.status.Status.{Status}
+use Rattle.dsm_top.specs.Command.{Command, run, check, plain}
 use Rattle.dsm_top.specs.Messages.{message_of}
-use Rattle.dsm_top.specs.Accepted.{IsAccepted}
+use Rattle.dsm_top.specs.Accepted.{IsAccepted, HasFitting, HasPicks}
+use Rattle.dsm_top.specs.PickRuns.{endings_of, IsRunByPicks}
 use Rattle.dsm_top.specs.Refusals.{Given, Refuses}
 
 -- what a call left: what the sink held before and after it, how often it had failed, the trace with its newest group first, and how many units were applied
@@ -87,23 +94,72 @@ status_of Finished.Done = Status.Done
 status_of Finished.Stopped = Status.Stopped
 status_of Finished.Unfinished = Status.Unfinished
 
+-- A check.
+
+abbrev pub ok_line : List ℕ
+ok_line = codes "ok" ++ 10 ∷ []
+
+-- what a check of an accepted program leaves, by the status: `ok` is written, or a part of it where the sink failed or memory ran out
+abbrev pub Checked : Left → Status → Type 0
+Checked left Status.Done = left.after ≡ appended left.before ok_line
+Checked left Status.WriteFault = TakesPart left.before left.after ok_line × Rose left.faults_before left.faults_after
+Checked left Status.Memory = TakesPart left.before left.after ok_line
+Checked left _ = ⊥
+
+-- A run over one memory.
+
+-- so many picks were applied, and they make this run
+pub record IsPlainRun (program : Program) (procs : ℕ) (picks : List Proc) (units : ℕ) (turns : List Turn) : Type 0 where
+  pub within : units ≤ length picks
+  pub is_run : IsRunByPicks program procs (take units picks) turns
+
+-- all picks were applied, all lines are written, and the threads stand so
+pub record PlainWhole (program : Program) (procs : ℕ) (picks : List Proc) (left : Left) (finished : Finished) : Type 0 where
+  pub turns : List Turn
+  pub is_run : IsPlainRun program procs picks left.units turns
+  pub all : left.units ≡ length picks
+  pub stands : finished_by procs (endings_of turns) ≡ finished
+  pub wrote : left.after ≡ appended left.before (printed_lines turns)
+
+-- the sink failed, and has taken a part of the lines
+pub record PlainCut (program : Program) (procs : ℕ) (picks : List Proc) (left : Left) : Type 0 where
+  pub turns : List Turn
+  pub is_run : IsPlainRun program procs picks left.units turns
+  pub wrote : TakesPart left.before left.after (printed_lines turns)
+  pub rose : Rose left.faults_before left.faults_after
+
+-- memory ran out, and the sink has taken a front of the lines
+pub record PlainShort (program : Program) (procs : ℕ) (picks : List Proc) (left : Left) : Type 0 where
+  pub turns : List Turn
+  pub is_run : IsPlainRun program procs picks left.units turns
+  pub wrote : TakesFront left.before left.after (printed_lines turns)
+
+-- what a run by picks leaves, by the status
+abbrev pub RanPlain : Program → ℕ → List Proc → Left → Status → Type 0
+RanPlain program procs picks left Status.Done = PlainWhole program procs picks left Finished.Done
+RanPlain program procs picks left Status.Stopped = PlainWhole program procs picks left Finished.Stopped
+RanPlain program procs picks left Status.Unfinished = PlainWhole program procs picks left Finished.Unfinished
+RanPlain program procs picks left Status.WriteFault = PlainCut program procs picks left
+RanPlain program procs picks left Status.Memory = PlainShort program procs picks left
+RanPlain program procs picks left _ = ⊥
+
 -- No run.
 
 -- a refusal, with its message written whole
 pub record RefusedWhole (given : Given) (left : Left) (status : Status) : Type 0 where
   pub cause : Refuses given status
-  pub wrote : left.after ≡ appended left.before (message_of given.names status)
+  pub wrote : left.after ≡ appended left.before (message_of given.command status)
 
 -- a refusal whose message was written in part, since the sink failed
 pub record RefusedCut (given : Given) (left : Left) : Type 0 where
   pub status : Status
   pub cause : Refuses given status
-  pub wrote : TakesPart left.before left.after (message_of given.names status)
+  pub wrote : TakesPart left.before left.after (message_of given.command status)
   pub rose : Rose left.faults_before left.faults_after
 
 -- memory ran out before anything was written, or in the message of a refusal
 pub record RefusedShort (given : Given) (left : Left) : Type 0 where
-  pub wrote : (left.after ≡ left.before) ⊎ ((status : Status) × Refuses given status × TakesPart left.before left.after (message_of given.names status))
+  pub wrote : (left.after ≡ left.before) ⊎ ((status : Status) × Refuses given status × TakesPart left.before left.after (message_of given.command status))
 
 -- what a refusal leaves, by the status
 abbrev pub RefusedBy : Given → Left → Status → Type 0
@@ -117,7 +173,37 @@ pub record Refused (given : Given) (left : Left) (status : Status) : Type 0 wher
   pub no_units : left.units ≡ 0
   pub refused : RefusedBy given left status
 
--- a call was refused, or it ran an accepted program by an accepted schedule
+-- Any call.
+
+-- what was accepted, and what it left
+pub record EndedRun (given : Given) (program schedule : List ℕ) (left : Left) (status : Status) : Type 0 where
+  pub small : SmallProgram
+  pub units : List Act
+  pub accepted : IsAccepted given.files program schedule small units
+  pub ran : Ran small units left status
+
+pub record EndedCheck (given : Given) (program : List ℕ) (procs : ℕ) (left : Left) (status : Status) : Type 0 where
+  pub found : Program
+  pub accepted : HasFitting given.files program procs found
+  pub no_trace : left.trace ≡ []
+  pub no_units : left.units ≡ 0
+  pub checked : Checked left status
+
+pub record EndedPlain (given : Given) (program picks : List ℕ) (left : Left) (status : Status) : Type 0 where
+  pub found : Program
+  pub procs : ℕ
+  pub entries : List PickEntry
+  pub accepted : HasFitting given.files program procs found
+  pub has_picks : HasPicks given.files picks procs entries
+  pub no_trace : left.trace ≡ []
+  pub ran : RanPlain found procs (picked_by procs entries) left status
+
+abbrev pub EndedCommand : Given → Left → Status → Option Command → Type 0
+EndedCommand given left status None = ⊥
+EndedCommand given left status (Some (run program schedule)) = EndedRun given program schedule left status
+EndedCommand given left status (Some (check program procs)) = EndedCheck given program procs left status
+EndedCommand given left status (Some (plain program picks)) = EndedPlain given program picks left status
+
+-- a call was refused, or it did what its command is for
 abbrev pub Ended : Given → Left → Status → Type 0
-Ended given left status =
-    Refused given left status ⊎ ((program : SmallProgram) × (schedule : List Act) × IsAccepted given.names given.files program schedule × Ran program schedule left status)
+Ended given left status = Refused given left status ⊎ EndedCommand given left status given.command

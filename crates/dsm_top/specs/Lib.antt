@@ -1,6 +1,10 @@
 pub mod Command
 pub mod Messages
 pub mod Accepted
+pub mod PickRuns
 pub mod Refusals
 pub mod Ended
 pub mod Runs
+pub mod Stub
+pub mod Prepared
+pub mod PlainRuns

@@ -1,11 +1,11 @@
 -- The numbers of statuses, and the messages of refusals.
-use Rattle.std.specs.Prelude.{ℕ, ◌==◌, Bool, true, false, if◌then◌else◌, List, [], ◌∷◌, ◌++◌, Option, Some, None, codes}
+use Rattle.std.specs.Prelude.{ℕ, Bool, true, false, if◌then◌else◌, List, [], ◌∷◌, ◌++◌, get_or, Option, Some, None, codes}
 use Rattle.std.specs.Fmt.{decimal}
 use Rattle.dsm_base.specs.declared.act.SchedErr.{SchedErr}
 use Rattle.dsm_syntax.specs.declared.errors.Which.{Which}
 use Rattle.dsm_syntax.specs.declared.errors.ProgErr.{ProgErr}
 use Rattle.dsm_top.specs.declared.status.Status.{Status}
-use Rattle.dsm_top.specs.Command.{FileNames}
+use Rattle.dsm_top.specs.Command.{Command, files_of}
 
 -- the exit status
 abbrev pub number_of_status : Status → ℕ
@@ -74,18 +74,18 @@ schedule_text (SchedErr.TooLong bytes) = codes "too long, " ++ decimal bytes
 schedule_text (SchedErr.NotBuilt line) = codes "not built" ++ at_line line
 schedule_text SchedErr.Memory = codes "out of memory"
 
--- the name of the file that could not be read: 0 is the program, 1 the schedule
-abbrev pub file_name : Option FileNames → ℕ → List ℕ
+-- the name of the file that could not be read, by its number
+abbrev pub file_name : Option Command → ℕ → List ℕ
 file_name None file = []
-file_name (Some files) file = if file == 0 then files.program else files.schedule
+file_name (Some command) file = get_or (files_of command) file []
 
 -- why a status refuses, where it does
-abbrev pub refusal_text : Option FileNames → Status → List ℕ
-refusal_text files (Status.ProgramRefused error) = codes "program refused: " ++ program_text error
-refusal_text files (Status.ScheduleRefused error) = codes "schedule refused: " ++ schedule_text error
-refusal_text files Status.WordsRefused = codes "words refused"
-refusal_text files (Status.ReadFault file) = codes "cannot read " ++ file_name files file
-refusal_text files _ = []
+abbrev pub refusal_text : Option Command → Status → List ℕ
+refusal_text command (Status.ProgramRefused error) = codes "program refused: " ++ program_text error
+refusal_text command (Status.ScheduleRefused error) = codes "schedule refused: " ++ schedule_text error
+refusal_text command Status.WordsRefused = codes "words refused"
+refusal_text command (Status.ReadFault file) = codes "cannot read " ++ file_name command file
+refusal_text command _ = []
 
 abbrev pub message_line : List ℕ → List ℕ
 message_line text = codes "dsm: " ++ text ++ 10 ∷ []
@@ -99,5 +99,5 @@ is_refusal (Status.ReadFault file) = true
 is_refusal _ = false
 
 -- the message of a status: one line where it refuses, and else nothing
-abbrev pub message_of : Option FileNames → Status → List ℕ
-message_of files status = if is_refusal status then message_line (refusal_text files status) else []
+abbrev pub message_of : Option Command → Status → List ℕ
+message_of command status = if is_refusal status then message_line (refusal_text command status) else []

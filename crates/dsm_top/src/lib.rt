@@ -1,15 +1,20 @@
 //! The call that the program makes: from its words to the bytes that it writes.
 #![tactic(auto)]
 
+mod check;
 mod command;
 mod host;
 mod lines;
 mod message;
 mod output;
+mod plain;
 mod prepare;
+mod program;
 mod run;
 mod status;
+mod stub;
 mod tool;
+mod turn;
 
 pub use host::{HostFiles, StdSink};
 pub use status::{Report, Status};

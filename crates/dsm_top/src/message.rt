@@ -1,12 +1,12 @@
 //! The messages of refusals.
 
-ghost use Rattle.std.specs.Prelude.{◌≡◌, [], ◌++◌, OnOk, IfOk};
+ghost use Rattle.std.specs.Prelude.{◌≡◌, [], ◌++◌, option_map, OnOk, IfOk};
 ghost use Rattle.std.specs.Fmt.{decimal};
 ghost use Rattle.dsm_syntax.specs.declared.errors.ProgErr.{ProgErr};
-ghost use Rattle.dsm_top.specs.Command.{names_in};
+ghost use Rattle.dsm_top.specs.Command.{command_in};
 ghost use Rattle.dsm_top.specs.Messages.{numbered, at_line, named, limit_name, program_text, schedule_text, file_name, refusal_text, message_line};
 
-use crate::command::RunFiles;
+use crate::command::Command;
 use crate::status::Status;
 use dsm_base::{MemFault, SchedErr, Text};
 use dsm_syntax::{ProgErr, Which};
@@ -230,14 +230,16 @@ fn write_schedule_error(out: &mut Line, alloc: Global, error: SchedErr) -> Resul
     }
 }
 
-/// The name of a file that could not be read: 0 is the program, 1 the schedule.
-fn write_file_name(out: &mut Line, files: Option<RunFiles<'_>>, file: u8) -> Result<(), MemFault>
-    ensures { OnOk result (out.new ≡ out.old ++ file_name (names_in files.entry) file) }
+/// The name of the file that could not be read, by its number.
+fn write_file_name(out: &mut Line, command: Option<Command<'_>>, file: u8) -> Result<(), MemFault>
+    ensures { OnOk result (out.new ≡ out.old ++ file_name (option_map command_in command.entry) file) }
 {
-    match files {
+    let Some(command) = command else {
+        return Ok(());
+    };
+    match command.file(file) {
+        Some(name) => out.text(name.as_str()),
         None => Ok(()),
-        Some(files) if file == 0 => out.text(files.program.as_str()),
-        Some(files) => out.text(files.schedule.as_str()),
     }
 }
 
@@ -245,10 +247,10 @@ fn write_file_name(out: &mut Line, files: Option<RunFiles<'_>>, file: u8) -> Res
 fn write_refusal(
     out: &mut Line,
     alloc: Global,
-    files: Option<RunFiles<'_>>,
+    command: Option<Command<'_>>,
     status: &Status,
 ) -> Result<(), MemFault>
-    ensures { OnOk result (out.new ≡ out.old ++ refusal_text (names_in files.entry) status.now) }
+    ensures { OnOk result (out.new ≡ out.old ++ refusal_text (option_map command_in command.entry) status.now) }
 {
     match status {
         Status::ProgramRefused(error) => {
@@ -262,7 +264,7 @@ fn write_refusal(
         Status::WordsRefused => out.text("words refused"),
         Status::ReadFault(file) => {
             out.text("cannot read ")?;
-            write_file_name(out, files, *file)
+            write_file_name(out, command, *file)
         }
         _ => Ok(()),
     }
@@ -271,14 +273,14 @@ fn write_refusal(
 /// The message of a refusal: one line.
 pub(crate) fn message(
     alloc: Global,
-    files: Option<RunFiles<'_>>,
+    command: Option<Command<'_>>,
     status: &Status,
 ) -> Result<Line, MemFault>
-    ensures { IfOk result (λ line. line ≡ message_line (refusal_text (names_in files.entry) status.now)) }
+    ensures { IfOk result (λ line. line ≡ message_line (refusal_text (option_map command_in command.entry) status.now)) }
 {
     let mut line = Line::new(alloc);
     line.text("dsm: ")?;
-    write_refusal(&mut line, alloc, files, status)?;
+    write_refusal(&mut line, alloc, command, status)?;
     line.text("\n")?;
     Ok(line)
 }

@@ -1,73 +1,77 @@
-//! What stands before a run: the program and the schedule.
+//! What stands before a run: programs, schedules and lists of picks from their files.
 
-ghost use Rattle.std.specs.Prelude.{◌≡◌, ◌≤◌, ℕ, List, Some, string_bytes, IfOk, IfErr};
-ghost use Rattle.dsm_base.specs.Causes.{HasCause};
+ghost use Rattle.std.specs.Prelude.{◌≡◌, ◌≤◌, ℕ, List, Some, Ok, string_bytes, option_map, IfOk, IfErr, MatchResult};
 ghost use Rattle.dsm_base.specs.Files.{Reads};
+ghost use Rattle.dsm_check.specs.CheckedViews.{program_of};
+ghost use Rattle.dsm_check.specs.Setups.{fitting};
 ghost use Rattle.dsm_small.specs.declared.tree.SmallProgram.{SmallProgram};
-ghost use Rattle.dsm_top.specs.Accepted.{IsText, HasProgram, HasSchedule, IsAccepted};
-ghost use Rattle.dsm_top.specs.Command.{names_of};
-ghost use Rattle.dsm_top.specs.Refusals.{IsReadProgram, RefusesOrMemory};
+ghost use Rattle.dsm_top.specs.Accepted.{IsText, HasProgram, HasSchedule, IsAccepted, HasChecked, HasFitting, HasPicks};
+ghost use Rattle.dsm_top.specs.Command.{command_in};
+ghost use Rattle.dsm_top.specs.Refusals.{Given, RefusesRun, RefusesProgram, RefusesPicks, RefusesOwner, RefusesCheck, RefusesPlain, OrMemory, RefusesOrMemory};
+ghost use Rattle.dsm_top.specs.Prepared.{IsUnread, IsPart, CanRun, CanPick, IsReady, IsPrepared};
 
-use crate::command::RunFiles;
+use crate::command::Command;
+use crate::program::{read_checked, read_program};
 use crate::status::Status;
 use dsm_base::{Files, ReadErr, SchedErr};
+use dsm_check::{Checked, fit};
+use dsm_picks::{Picks, read_picks};
 use dsm_sched::{MOST_BYTES, Schedule, read_schedule};
-use dsm_small::{SmallProgram, read_small};
-use dsm_syntax::{MOST_TEXT, ProgErr, lex};
+use dsm_small::SmallProgram;
+use dsm_syntax::{MOST_TEXT, ProgErr};
 use std::alloc::Global;
 
-/// A program and a schedule that are accepted.
+/// A small program and a schedule that are accepted.
 #[derive(Drop)]
-pub(crate) struct Prepared {
+pub(crate) struct SmallRun {
     pub program: SmallProgram,
     pub schedule: Schedule,
 }
 
-/// Reads a file, at most one byte more than are wanted.
+/// A program and a list of picks that are accepted.
+#[derive(Drop)]
+pub(crate) struct PickRun {
+    pub program: Checked,
+    pub picks: Picks,
+}
+
+/// What a command needs, where all that it names is accepted.
+#[derive(Drop)]
+pub(crate) enum Prepared {
+    Run(SmallRun),
+    Check,
+    Plain(PickRun),
+}
+
+/// Reads the file with this number, at most one byte more than are wanted.
 fn read_text<F: Files>(
     alloc: Global,
     files: &mut F,
     name: &String,
     most: usize,
-) -> Result<Vec<u8>, ReadErr>
+    number: u8,
+) -> Result<Vec<u8>, Status>
     ensures text { IfOk result (λ text. IsText (F.files_hold files.old) (string_bytes name.now) most text.items) }
-    ensures same { F.files_hold files.new ≡ F.files_hold files.old }
-    ensures cause { HasCause (F.files_faults files.old) (F.files_faults files.new) result }
-{
-    let mut text = Vec::new(alloc);
-    files.read(name, most, &mut text)?;
-    Ok(text)
-}
-
-/// Reads a program. `NotBuilt` exactly where the text isn't one that can be run yet; `Memory` for want
-/// of memory.
-fn read_program(alloc: Global, text: &[u8]) -> Result<SmallProgram, ProgErr>
-    ensures { IsReadProgram text.now result }
-{
-    let tokens = match lex(alloc, text) {
-        Ok(tokens) => tokens,
-        Err(ProgErr::Memory) => return Err(ProgErr::Memory),
-        Err(_) => return Err(ProgErr::NotBuilt { line: 0 }),
-    };
-    read_small(alloc, &tokens)
-}
-
-/// Reads the program of a command.
-fn program_of<F: Files>(
-    alloc: Global,
-    names: RunFiles<'_>,
-    files: &mut F,
-) -> Result<SmallProgram, Status>
-    ensures program { IfOk result (HasProgram (Some (names_of names.entry)) (F.files_hold files.old)) }
-    ensures refused { IfErr result (RefusesOrMemory record { names = Some (names_of names.entry); files = F.files_hold files.old; faults_before = F.files_faults files.old; faults_after = F.files_faults files.new }) }
+    ensures failed { IfErr result (IsUnread number (F.files_faults files.old) (F.files_faults files.new)) }
     ensures same { F.files_hold files.new ≡ F.files_hold files.old }
     ensures later { F.files_faults files.old ≤ F.files_faults files.new }
 {
-    let text = match read_text(alloc, files, names.program, MOST_TEXT) {
-        Ok(text) => text,
-        Err(ReadErr::Failed) => return Err(Status::ReadFault(0)),
-        Err(ReadErr::Memory) => return Err(Status::Memory),
-    };
+    let mut text = Vec::new(alloc);
+    match files.read(name, most, &mut text) {
+        Ok(()) => Ok(text),
+        Err(ReadErr::Failed) => Err(Status::ReadFault(number)),
+        Err(ReadErr::Memory) => Err(Status::Memory),
+    }
+}
+
+/// Reads the program of `run`.
+fn program_of<F: Files>(alloc: Global, name: &String, files: &mut F) -> Result<SmallProgram, Status>
+    ensures program { IfOk result (HasProgram (F.files_hold files.old) (string_bytes name.now)) }
+    ensures refused { IfErr result (λ status. (given : Given) (schedule : List ℕ) → IsPart given (F.files_hold files.old) (F.files_faults files.old) (F.files_faults files.new) → OrMemory (RefusesRun given (string_bytes name.now) schedule) status) }
+    ensures same { F.files_hold files.new ≡ F.files_hold files.old }
+    ensures later { F.files_faults files.old ≤ F.files_faults files.new }
+{
+    let text = read_text(alloc, files, name, MOST_TEXT, 0)?;
     match read_program(alloc, text.as_slice()) {
         Ok(program) => Ok(program),
         Err(ProgErr::NotBuilt { line }) => Err(Status::ProgramRefused(ProgErr::NotBuilt { line })),
@@ -75,21 +79,15 @@ fn program_of<F: Files>(
     }
 }
 
-/// Reads the schedule of a command.
-fn schedule_of<F: Files>(
-    alloc: Global,
-    names: RunFiles<'_>,
-    files: &mut F,
-) -> Result<Schedule, Status>
-    ensures schedule { IfOk result (λ schedule. HasSchedule (Some (names_of names.entry)) (F.files_hold files.old) schedule.units) }
+/// Reads the schedule of `run`, behind its program.
+fn schedule_of<F: Files>(alloc: Global, name: &String, files: &mut F) -> Result<Schedule, Status>
+    ensures schedule { IfOk result (λ schedule. HasSchedule (F.files_hold files.old) (string_bytes name.now) schedule.units) }
     ensures procs { IfOk result (λ schedule. schedule.procs ≡ 2) }
-    ensures refused { IfErr result (λ status. (program : SmallProgram) (before : ℕ) → HasProgram (Some (names_of names.entry)) (F.files_hold files.old) program → before ≤ F.files_faults files.old → RefusesOrMemory record { names = Some (names_of names.entry); files = F.files_hold files.old; faults_before = before; faults_after = F.files_faults files.new } status) }
+    ensures refused { IfErr result (λ status. (given : Given) (name_before : List ℕ) (program : SmallProgram) → HasProgram given.files name_before program → IsPart given (F.files_hold files.old) (F.files_faults files.old) (F.files_faults files.new) → OrMemory (RefusesRun given name_before (string_bytes name.now)) status) }
+    ensures same { F.files_hold files.new ≡ F.files_hold files.old }
+    ensures later { F.files_faults files.old ≤ F.files_faults files.new }
 {
-    let text = match read_text(alloc, files, names.schedule, MOST_BYTES) {
-        Ok(text) => text,
-        Err(ReadErr::Failed) => return Err(Status::ReadFault(1)),
-        Err(ReadErr::Memory) => return Err(Status::Memory),
-    };
+    let text = read_text(alloc, files, name, MOST_BYTES, 1)?;
     match read_schedule(alloc, text.as_slice()) {
         Ok(schedule) => Ok(schedule),
         Err(SchedErr::NotBuilt { line }) => Err(Status::ScheduleRefused(SchedErr::NotBuilt {
@@ -99,17 +97,114 @@ fn schedule_of<F: Files>(
     }
 }
 
-/// Reads the program and the schedule of a command.
+/// Reads a program of the whole language.
+fn checked_of<F: Files>(alloc: Global, name: &String, files: &mut F) -> Result<Checked, Status>
+    ensures program { IfOk result (λ program. HasChecked (F.files_hold files.old) (string_bytes name.now) (program_of program)) }
+    ensures refused { IfErr result (λ status. (given : Given) → IsPart given (F.files_hold files.old) (F.files_faults files.old) (F.files_faults files.new) → OrMemory (RefusesProgram given (string_bytes name.now)) status) }
+    ensures same { F.files_hold files.new ≡ F.files_hold files.old }
+    ensures later { F.files_faults files.old ≤ F.files_faults files.new }
+{
+    let text = read_text(alloc, files, name, MOST_TEXT, 0)?;
+    match read_checked(alloc, text.as_slice()) {
+        Ok(checked) => Ok(checked),
+        Err(ProgErr::Memory) => Err(Status::Memory),
+        Err(error) => Err(Status::ProgramRefused(error)),
+    }
+}
+
+/// Reads a list of picks.
+fn picks_of<F: Files>(alloc: Global, name: &String, files: &mut F) -> Result<Picks, Status>
+    ensures picks { IfOk result (λ picks. HasPicks (F.files_hold files.old) (string_bytes name.now) picks.procs picks.entries) }
+    ensures refused { IfErr result (λ status. (given : Given) → IsPart given (F.files_hold files.old) (F.files_faults files.old) (F.files_faults files.new) → OrMemory (RefusesPicks given (string_bytes name.now)) status) }
+    ensures same { F.files_hold files.new ≡ F.files_hold files.old }
+    ensures later { F.files_faults files.old ≤ F.files_faults files.new }
+{
+    let text = read_text(alloc, files, name, MOST_BYTES, 1)?;
+    match read_picks(alloc, text.as_slice()) {
+        Ok(picks) => Ok(picks),
+        Err(SchedErr::Memory) => Err(Status::Memory),
+        Err(error) => Err(Status::ScheduleRefused(error)),
+    }
+}
+
+/// Tests that each owner is one of so many processors.
+fn test_owners(program: &Checked, procs: u8) -> Result<(), Status>
+    ensures { MatchResult result (λ _. fitting (program_of program.now) procs ≡ Ok tt) (RefusesOwner (program_of program.now) procs) }
+{
+    match fit(program, procs) {
+        Ok(()) => Ok(()),
+        Err(error) => Err(Status::ProgramRefused(error)),
+    }
+}
+
+/// Reads the program and the schedule of `run`.
+fn prepare_run<F: Files>(
+    alloc: Global,
+    program: &String,
+    schedule: &String,
+    files: &mut F,
+) -> Result<SmallRun, Status>
+    ensures accepted { IfOk result (λ prepared. IsAccepted (F.files_hold files.old) (string_bytes program.now) (string_bytes schedule.now) prepared.program prepared.schedule.units) }
+    ensures ready { IfOk result CanRun }
+    ensures refused { IfErr result (λ status. (given : Given) → IsPart given (F.files_hold files.old) (F.files_faults files.old) (F.files_faults files.new) → OrMemory (RefusesRun given (string_bytes program.now) (string_bytes schedule.now)) status) }
+{
+    let program = program_of(alloc, program, files)?;
+    let schedule = schedule_of(alloc, schedule, files)?;
+    Ok(SmallRun { program, schedule })
+}
+
+/// Reads the program of `check`, and tests its owners.
+fn prepare_check<F: Files>(
+    alloc: Global,
+    program: &String,
+    procs: u8,
+    files: &mut F,
+) -> Result<Checked, Status>
+    ensures accepted { IfOk result (λ found. HasFitting (F.files_hold files.old) (string_bytes program.now) procs (program_of found)) }
+    ensures refused { IfErr result (λ status. (given : Given) → IsPart given (F.files_hold files.old) (F.files_faults files.old) (F.files_faults files.new) → OrMemory (RefusesCheck given (string_bytes program.now) procs) status) }
+{
+    let program = checked_of(alloc, program, files)?;
+    test_owners(&program, procs)?;
+    Ok(program)
+}
+
+/// Reads the program and the picks of `plain`, and tests the owners.
+fn prepare_plain<F: Files>(
+    alloc: Global,
+    program: &String,
+    picks: &String,
+    files: &mut F,
+) -> Result<PickRun, Status>
+    ensures accepted { IfOk result (λ prepared. HasFitting (F.files_hold files.old) (string_bytes program.now) prepared.picks.procs (program_of prepared.program)) }
+    ensures picks { IfOk result (λ prepared. HasPicks (F.files_hold files.old) (string_bytes picks.now) prepared.picks.procs prepared.picks.entries) }
+    ensures refused { IfErr result (λ status. (given : Given) → IsPart given (F.files_hold files.old) (F.files_faults files.old) (F.files_faults files.new) → OrMemory (RefusesPlain given (string_bytes program.now) (string_bytes picks.now)) status) }
+{
+    let program = checked_of(alloc, program, files)?;
+    let picks = picks_of(alloc, picks, files)?;
+    test_owners(&program, picks.procs)?;
+    Ok(PickRun { program, picks })
+}
+
+/// Reads what a command names.
 pub(crate) fn prepare<F: Files>(
     alloc: Global,
-    names: RunFiles<'_>,
+    command: Command<'_>,
     files: &mut F,
 ) -> Result<Prepared, Status>
-    ensures accepted { IfOk result (λ prepared. IsAccepted (Some (names_of names.entry)) (F.files_hold files.old) prepared.program prepared.schedule.units) }
-    ensures procs { IfOk result (λ prepared. prepared.schedule.procs ≡ 2) }
-    ensures refused { IfErr result (RefusesOrMemory record { names = Some (names_of names.entry); files = F.files_hold files.old; faults_before = F.files_faults files.old; faults_after = F.files_faults files.new }) }
+    ensures accepted { IfOk result (IsPrepared (F.files_hold files.old) (Some (command_in command.entry))) }
+    ensures ready { IfOk result IsReady }
+    ensures refused { IfErr result (RefusesOrMemory record { command = Some (command_in command.entry); files = F.files_hold files.old; faults_before = F.files_faults files.old; faults_after = F.files_faults files.new }) }
 {
-    let program = program_of(alloc, names, files)?;
-    let schedule = schedule_of(alloc, names, files)?;
-    Ok(Prepared { program, schedule })
+    match command {
+        Command::Run { program, schedule } => {
+            Ok(Prepared::Run(prepare_run(alloc, program, schedule, files)?))
+        }
+        Command::Check { program, procs } => {
+            prepare_check(alloc, program, procs, files)?;
+            Ok(Prepared::Check)
+        }
+        Command::Plain { program, picks } => {
+            Ok(Prepared::Plain(prepare_plain(alloc, program, picks, files)?))
+        }
+    }
 }

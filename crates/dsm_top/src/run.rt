@@ -9,15 +9,15 @@ ghost use Rattle.dsm_world.specs.World.{setup_of, groups_of, units_of};
 ghost use Rattle.dsm_small.specs.Meaning.{small_first};
 ghost use Rattle.dsm_small.specs.Setups.{small_setup};
 ghost use Rattle.dsm_top.specs.Ended.{lines_of_trace, status_of, Ran};
+ghost use Rattle.dsm_top.specs.Prepared.{CanRun};
 ghost use Rattle.dsm_top.specs.Runs.{IsWholeWorld, first_in, FitsFirst, IsSameRun, WroteCut};
 
 use crate::lines::put_lines;
-use crate::prepare::Prepared;
+use crate::prepare::SmallRun;
 use crate::status::{Report, Status};
 use dsm_base::{Act, MemFault, ReadErr, Sink};
 use dsm_laws_locks::one_memory;
 use dsm_small::{SharedProgram, SmallMaker, SmallProgram};
-use dsm_trace::Trace;
 use dsm_world::{Finished, World};
 use std::alloc::Global;
 use std::rc::Rc;
@@ -64,7 +64,7 @@ fn start(alloc: Global, program: SmallProgram, procs: u8) -> Result<World<SmallM
 }
 
 /// The status of a run that went through its schedule.
-fn status_of(finished: Finished) -> Status
+pub(crate) fn status_of(finished: Finished) -> Status
     ensures { result ≡ status_of finished }
 {
     match finished {
@@ -75,18 +75,13 @@ fn status_of(finished: Finished) -> Status
 }
 
 /// Runs a program by a schedule.
-pub(crate) fn run<K: Sink>(alloc: Global, prepared: Prepared, out: &mut K) -> Report
-    requires procs { prepared.schedule.procs ≡ 2 }
-    requires within { AllByRecursion (IsWithin (small_setup prepared.program 2 refl)) prepared.schedule.units }
+pub(crate) fn run<K: Sink>(alloc: Global, prepared: SmallRun, out: &mut K) -> Report
+    requires { CanRun prepared }
     ensures { Ran prepared.program prepared.schedule.units record { before = K.sink_holds out.old; after = K.sink_holds out.new; faults_before = K.sink_faults out.old; faults_after = K.sink_faults out.new; trace = reverse result.trace; units = result.units } result.status }
 {
     one_memory::<SmallMaker>();
     let Ok(mut world) = start(alloc, prepared.program, prepared.schedule.procs) else {
-        return Report {
-            status: Status::Memory,
-            trace: Trace::new(alloc),
-            units: 0,
-        };
+        return Report::untraced(alloc, Status::Memory, 0);
     };
     let status = match apply_units(&mut world, prepared.schedule.units.as_slice(), out) {
         Ok(()) => status_of(world.finished()),

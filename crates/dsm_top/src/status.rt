@@ -1,24 +1,25 @@
 //! How a call ends.
 
-ghost use Rattle.std.specs.Prelude.{◌≡◌};
+ghost use Rattle.std.specs.Prelude.{◌≡◌, []};
 ghost use Rattle.dsm_top.specs.Messages.{number_of_status};
 
 use dsm_base::SchedErr;
 use dsm_syntax::ProgErr;
 use dsm_trace::Trace;
+use std::alloc::Global;
 
 /// How a call ended.
 #[derive(Debug, Drop)]
 pub enum Status {
-    /// The schedule is used up and every thread has ended.
+    /// The schedule, or the list of picks, is used up and every thread has ended; or a program is accepted.
     Done,
-    /// The schedule is used up, every thread has ended or stopped, and some have stopped.
+    /// It is used up, every thread has ended or stopped, and some have stopped.
     Stopped,
-    /// The schedule is used up, and a thread has neither ended nor stopped.
+    /// It is used up, and a thread has neither ended nor stopped.
     Unfinished,
     /// The program is refused.
     ProgramRefused(ProgErr),
-    /// The schedule is refused.
+    /// The schedule or the list of picks is refused.
     ScheduleRefused(SchedErr),
     /// The words are no command.
     WordsRefused,
@@ -55,6 +56,19 @@ pub struct Report {
     pub status: Status,
     /// What happened in this call's run; empty where no run began.
     pub trace: Trace,
-    /// How many units of the schedule were applied.
+    /// How many units of the schedule, or how many picks, were applied.
     pub units: u32,
+}
+
+impl Report {
+    /// What a call answers that leaves no trace.
+    pub(crate) fn untraced(alloc: Global, status: Status, units: u32) -> Report
+        ensures { result ≡ record { status = status; trace = []; units = units } }
+    {
+        Report {
+            status,
+            trace: Trace::new(alloc),
+            units,
+        }
+    }
 }

@@ -1,34 +1,36 @@
 //! The call that the program makes.
 
-ghost use Rattle.std.specs.Prelude.{◌≡◌, [], map, reverse, string_bytes};
+ghost use Rattle.std.specs.Prelude.{◌≡◌, [], map, option_map, reverse, string_bytes};
 ghost use Rattle.dsm_base.specs.Sink.{appended};
-ghost use Rattle.dsm_top.specs.Command.{files_of, names_in};
+ghost use Rattle.dsm_top.specs.Command.{command_of, command_in};
+ghost use Rattle.dsm_top.specs.Prepared.{IsReady, IsPrepared};
 ghost use Rattle.dsm_top.specs.Ended.{RefusedBy, Ended};
 ghost use Rattle.dsm_top.specs.Refusals.{Given, RefusesOrMemory};
 
-use crate::command::{RunFiles, read_command};
+use crate::check::answer_check;
+use crate::command::{Command, read_command};
 use crate::message::message;
 use crate::output::put_all;
-use crate::prepare::prepare;
+use crate::plain::run_picks;
+use crate::prepare::{Prepared, prepare};
 use crate::run::run;
 use crate::status::{Report, Status};
 use dsm_base::{Files, ReadErr, Sink};
-use dsm_trace::Trace;
 use std::alloc::Global;
 
 /// Writes the message of a refusal; want of memory has none. Answers the status.
 fn refuse<K: Sink>(
     alloc: Global,
-    names: Option<RunFiles<'_>>,
+    command: Option<Command<'_>>,
     status: Status,
     out: &mut K,
 ) -> Status
-    ensures { (given : Given) → given.names ≡ names_in names.entry → RefusesOrMemory given status → RefusedBy given record { before = K.sink_holds out.old; after = K.sink_holds out.new; faults_before = K.sink_faults out.old; faults_after = K.sink_faults out.new; trace = []; units = 0 } result }
+    ensures { (given : Given) → given.command ≡ option_map command_in command.entry → RefusesOrMemory given status → RefusedBy given record { before = K.sink_holds out.old; after = K.sink_holds out.new; faults_before = K.sink_faults out.old; faults_after = K.sink_faults out.new; trace = []; units = 0 } result }
 {
     if let Status::Memory = status {
         return status;
     }
-    let Ok(line) = message(alloc, names, &status) else {
+    let Ok(line) = message(alloc, command, &status) else {
         return Status::Memory;
     };
     match put_all(out, line.as_slice()) {
@@ -38,32 +40,36 @@ fn refuse<K: Sink>(
     }
 }
 
-/// What a call answers that ran nothing.
-fn refused(alloc: Global, status: Status) -> Report
-    ensures { result ≡ record { status = status; trace = []; units = 0 } }
+/// Does what a command is for.
+fn perform<K: Sink>(alloc: Global, prepared: Prepared, out: &mut K) -> Report
+    requires { IsReady prepared }
+    ensures { (given : Given) → IsPrepared given.files given.command prepared →
+        Ended given record { before = K.sink_holds out.old; after = K.sink_holds out.new; faults_before = K.sink_faults out.old; faults_after = K.sink_faults out.new; trace = reverse result.trace; units = result.units } result.status }
 {
-    Report {
-        status,
-        trace: Trace::new(alloc),
-        units: 0,
+    match prepared {
+        Prepared::Run(prepared) => run(alloc, prepared, out),
+        Prepared::Check => answer_check(alloc, out),
+        Prepared::Plain(prepared) => run_picks(alloc, prepared, out),
     }
 }
 
-/// Runs the command that the words are: `run PROGRAM SCHEDULE`. Puts the lines that the program prints
-/// into `out`, or the one line that says why nothing ran.
+/// Does what the words ask for: `run PROGRAM SCHEDULE` runs a program by a schedule, `check PROGRAM
+/// --procs N` tells whether a program is accepted for so many processors, and `plain PROGRAM PICKS` runs
+/// a program over one memory by a list of picks. Puts the lines that the program prints into `out`, or
+/// `ok`, or the one line that says why nothing ran.
 pub fn run_tool<F: Files, K: Sink>(
     alloc: Global,
     words: &[String],
     files: &mut F,
     out: &mut K,
 ) -> Report
-    ensures ended { Ended record { names = files_of (map string_bytes words.now); files = F.files_hold files.old; faults_before = F.files_faults files.old; faults_after = F.files_faults files.new } record { before = K.sink_holds out.old; after = K.sink_holds out.new; faults_before = K.sink_faults out.old; faults_after = K.sink_faults out.new; trace = reverse result.trace; units = result.units } result.status }
+    ensures ended { Ended record { command = command_of (map string_bytes words.now); files = F.files_hold files.old; faults_before = F.files_faults files.old; faults_after = F.files_faults files.new } record { before = K.sink_holds out.old; after = K.sink_holds out.new; faults_before = K.sink_faults out.old; faults_after = K.sink_faults out.new; trace = reverse result.trace; units = result.units } result.status }
 {
-    let Some(names) = read_command(words) else {
-        return refused(alloc, refuse(alloc, None, Status::WordsRefused, out));
+    let Some(command) = read_command(words) else {
+        return Report::untraced(alloc, refuse(alloc, None, Status::WordsRefused, out), 0);
     };
-    match prepare(alloc, names, files) {
-        Ok(prepared) => run(alloc, prepared, out),
-        Err(status) => refused(alloc, refuse(alloc, Some(names), status, out)),
+    match prepare(alloc, command, files) {
+        Ok(prepared) => perform(alloc, prepared, out),
+        Err(status) => Report::untraced(alloc, refuse(alloc, Some(command), status, out), 0),
     }
 }

@@ -1,0 +1,164 @@
+-- A program names only cells, locks and barriers that there are, and so does what remains to be done of it.
+use Rattle.std.specs.Prelude.{ℕ, ◌+◌, ◌<◌, ◌≤◌, List, [], ◌∷◌, Option, Some, None}
+use Rattle.std.specs.List.{AllByRecursion}
+use Rattle.dsm_base.specs.declared.label.Want.{Want}
+use Rattle.dsm_base.specs.declared.setup.Setup.{Setup}
+use Rattle.dsm_syntax.specs.declared.tree.Sharing.{Sharing}
+use Rattle.dsm_check.specs.declared.resolved.Array.{Array}
+use Rattle.dsm_check.specs.Resolved as r
+use Rattle.dsm_check.specs.SemanticsItems.{Place, slot, cell, member, LockPlace, one_lock, lock_member, Loop, Item, evaluate, evaluate_all, load, store, and_then, or_else, choose, execute, run, declare, branch, round, decide, third_part, jump_back, ask, take_lock, give, cross, gather, Frame, State}
+
+-- how many shared cells, locks and barriers there are
+pub record Extent : Type 0 where
+  pub cells : ℕ
+  pub locks : ℕ
+  pub bars : ℕ
+
+abbrev pub extent_of : Setup → Extent
+extent_of setup = record { cells = setup.cells; locks = setup.locks; bars = setup.bars }
+
+-- all members of an array are below a bound
+abbrev pub IsArrayBelow : ℕ → Array → Type 0
+IsArrayBelow bound array = array.first + array.size ≤ bound
+
+abbrev pub IsCellWithin : Extent → Sharing → ℕ → Type 0
+IsCellWithin extent Sharing.Shared number = number < extent.cells
+IsCellWithin extent Sharing.Private number = Unit {0}
+
+abbrev pub IsArrayWithin : Extent → Sharing → Array → Type 0
+IsArrayWithin extent Sharing.Shared array = IsArrayBelow extent.cells array
+IsArrayWithin extent Sharing.Private array = Unit {0}
+
+abbrev mutual
+  pub IsLocationWithin : Extent → r.Location → Type 0
+  IsLocationWithin extent (r.variable number) = Unit {0}
+  IsLocationWithin extent (r.cell sharing number line) = IsCellWithin extent sharing number
+  IsLocationWithin extent (r.element sharing array index line) = IsArrayWithin extent sharing array × IsWithin extent index
+
+  pub IsWithin : Extent → r.Expression → Type 0
+  IsWithin extent (r.number n) = Unit {0}
+  IsWithin extent (r.load location) = IsLocationWithin extent location
+  IsWithin extent (r.call function arguments line) = AreWithin extent arguments
+  IsWithin extent (r.unary op line e) = IsWithin extent e
+  IsWithin extent (r.prefix op line location) = IsLocationWithin extent location
+  IsWithin extent (r.postfix location op line) = IsLocationWithin extent location
+  IsWithin extent (r.binary a op line b) = IsWithin extent a × IsWithin extent b
+  IsWithin extent (r.choice test a b) = IsWithin extent test × IsWithin extent a × IsWithin extent b
+  IsWithin extent (r.assign location op line e) = IsLocationWithin extent location × IsWithin extent e
+
+  pub AreWithin : Extent → r.Expressions → Type 0
+  AreWithin extent r.nil = Unit {0}
+  AreWithin extent (r.cons e rest) = IsWithin extent e × AreWithin extent rest
+
+abbrev pub IsOptionWithin : Extent → Option r.Expression → Type 0
+IsOptionWithin extent None = Unit {0}
+IsOptionWithin extent (Some e) = IsWithin extent e
+
+abbrev pub AreVariablesWithin : Extent → List r.Variable → Type 0
+AreVariablesWithin extent variables = AllByRecursion (λ variable. IsOptionWithin extent variable.initial) variables
+
+abbrev pub IsPartWithin : Extent → r.Part → Type 0
+IsPartWithin extent (r.part_text text) = Unit {0}
+IsPartWithin extent (r.part_value e) = IsWithin extent e
+
+abbrev pub ArePartsWithin : Extent → List r.Part → Type 0
+ArePartsWithin extent parts = AllByRecursion (IsPartWithin extent) parts
+
+abbrev pub IsStartWithin : Extent → r.ForStart → Type 0
+IsStartWithin extent r.start_nothing = Unit {0}
+IsStartWithin extent (r.start_variables variables) = AreVariablesWithin extent variables
+IsStartWithin extent (r.start_expression e) = IsWithin extent e
+
+abbrev pub IsLockWithin : Extent → r.LockPlace → Type 0
+IsLockWithin extent (r.one_lock lock line) = lock.0 < extent.locks
+IsLockWithin extent (r.lock_element array index line) = IsArrayBelow extent.locks array × IsWithin extent index
+
+abbrev mutual
+  pub IsStatementWithin : Extent → r.Statement → Type 0
+  IsStatementWithin extent (r.block body) = AreStatementsWithin extent body
+  IsStatementWithin extent r.empty = Unit {0}
+  IsStatementWithin extent (r.variables variables) = AreVariablesWithin extent variables
+  IsStatementWithin extent (r.expression e) = IsWithin extent e
+  IsStatementWithin extent (r.when test body) = IsWithin extent test × IsStatementWithin extent body
+  IsStatementWithin extent (r.either test body other) =
+      IsWithin extent test × IsStatementWithin extent body × IsStatementWithin extent other
+  IsStatementWithin extent (r.while test body) = IsWithin extent test × IsStatementWithin extent body
+  IsStatementWithin extent (r.for start test step body) =
+      IsStartWithin extent start × IsOptionWithin extent test × IsOptionWithin extent step × IsStatementWithin extent body
+  IsStatementWithin extent r.break = Unit {0}
+  IsStatementWithin extent r.continue = Unit {0}
+  IsStatementWithin extent (r.return value) = IsOptionWithin extent value
+  IsStatementWithin extent (r.acquire lock mode) = IsLockWithin extent lock
+  IsStatementWithin extent (r.release lock) = IsLockWithin extent lock
+  IsStatementWithin extent (r.barrier bar) = bar.0 < extent.bars
+  IsStatementWithin extent (r.print parts) = ArePartsWithin extent parts
+
+  pub AreStatementsWithin : Extent → r.Statements → Type 0
+  AreStatementsWithin extent r.none = Unit {0}
+  AreStatementsWithin extent (r.then statement rest) = IsStatementWithin extent statement × AreStatementsWithin extent rest
+
+abbrev pub AreFunctionsWithin : Extent → List r.Function → Type 0
+AreFunctionsWithin extent functions = AllByRecursion (λ function. AreStatementsWithin extent function.body) functions
+
+-- a want names only what there is
+abbrev pub NamesWithin : Extent → Want → Type 0
+NamesWithin extent (Want.Load number line) = number.0 < extent.cells
+NamesWithin extent (Want.Store number value line) = number.0 < extent.cells
+NamesWithin extent (Want.Ask lock mode line) = lock.0 < extent.locks
+NamesWithin extent (Want.Take lock mode) = lock.0 < extent.locks
+NamesWithin extent (Want.Give lock line) = lock.0 < extent.locks
+NamesWithin extent (Want.Arrive bar) = bar.0 < extent.bars
+NamesWithin extent (Want.Cross bar) = bar.0 < extent.bars
+NamesWithin extent _ = Unit {0}
+
+-- What remains to be done names only what there is.
+
+abbrev pub IsPlaceWithin : Extent → Place → Type 0
+IsPlaceWithin extent (slot number) = Unit {0}
+IsPlaceWithin extent (cell sharing number line) = IsCellWithin extent sharing number
+IsPlaceWithin extent (member sharing array line) = IsArrayWithin extent sharing array
+
+abbrev pub IsLockPlaceWithin : Extent → LockPlace → Type 0
+IsLockPlaceWithin extent (one_lock lock line) = lock.0 < extent.locks
+IsLockPlaceWithin extent (lock_member array line) = IsArrayBelow extent.locks array
+
+abbrev pub IsOtherWithin : Extent → Option r.Statement → Type 0
+IsOtherWithin extent None = Unit {0}
+IsOtherWithin extent (Some other) = IsStatementWithin extent other
+
+abbrev pub IsLoopWithin : Extent → Loop → Type 0
+IsLoopWithin extent loop = IsOptionWithin extent loop.test × IsOptionWithin extent loop.step × IsStatementWithin extent loop.body
+
+abbrev pub IsItemWithin : Extent → Item → Type 0
+IsItemWithin extent (evaluate e) = IsWithin extent e
+IsItemWithin extent (evaluate_all arguments) = AreWithin extent arguments
+IsItemWithin extent (load place way) = IsPlaceWithin extent place
+IsItemWithin extent (store place) = IsPlaceWithin extent place
+IsItemWithin extent (and_then e) = IsWithin extent e
+IsItemWithin extent (or_else e) = IsWithin extent e
+IsItemWithin extent (choose a b) = IsWithin extent a × IsWithin extent b
+IsItemWithin extent (execute statement) = IsStatementWithin extent statement
+IsItemWithin extent (run statements) = AreStatementsWithin extent statements
+IsItemWithin extent (declare variables) = AreVariablesWithin extent variables
+IsItemWithin extent (branch body other) = IsStatementWithin extent body × IsOtherWithin extent other
+IsItemWithin extent (round loop) = IsLoopWithin extent loop
+IsItemWithin extent (decide loop) = IsLoopWithin extent loop
+IsItemWithin extent (third_part loop) = IsLoopWithin extent loop
+IsItemWithin extent (jump_back loop) = IsLoopWithin extent loop
+IsItemWithin extent (ask lock mode) = IsLockPlaceWithin extent lock
+IsItemWithin extent (take_lock lock mode) = IsLockPlaceWithin extent lock
+IsItemWithin extent (give lock) = IsLockPlaceWithin extent lock
+IsItemWithin extent (cross bar) = bar.0 < extent.bars
+IsItemWithin extent (gather parts) = ArePartsWithin extent parts
+IsItemWithin extent _ = Unit {0}
+
+abbrev pub AreItemsWithin : Extent → List Item → Type 0
+AreItemsWithin extent [] = Unit {0}
+AreItemsWithin extent (item ∷ k) = IsItemWithin extent item × AreItemsWithin extent k
+
+abbrev pub AreFramesWithin : Extent → List Frame → Type 0
+AreFramesWithin extent [] = Unit {0}
+AreFramesWithin extent (frame ∷ outer) = AreItemsWithin extent frame.todo × AreFramesWithin extent outer
+
+abbrev pub IsStateWithin : Extent → State → Type 0
+IsStateWithin extent s = AreItemsWithin extent s.todo × AreFramesWithin extent s.outer

@@ -1,0 +1,11 @@
+use Rattle.std.proofs.Common.{◌≡◌, map, length}
+use Rattle.dsm_syntax.specs.Views.{view_part}
+use Rattle.dsm_parse.specs.Reading.{gathered, more_of, list_of}
+use Rattle.dsm_parse.specs.Statements as reader
+use Rattle.dsm_parse.proofs.print.parts.Given as goal
+
+abbrev pub invariant-loop-alloc : goal.invariant-loop-alloc
+invariant-loop-alloc l = list_of (reader.part l.most) l.fn.cursor ≡ gathered (map view_part l.all.items) (more_of (reader.part l.most)) l.cursor
+
+abbrev pub decreases-loop-alloc : goal.decreases-loop-alloc
+decreases-loop-alloc l = length l.cursor

@@ -1,0 +1,16 @@
+//! The machine of one memory, over programs with every name resolved.
+#![tactic(auto)]
+
+mod call;
+mod expression;
+mod finish;
+mod frame;
+mod item;
+mod location;
+mod lock;
+mod thread;
+mod print;
+mod stack;
+mod statement;
+mod step;
+mod value;

@@ -1,0 +1,102 @@
+-- What one more pick leaves of a run in the code.
+use Rattle.std.specs.Prelude.{◌≡◌, ◌≤◌, ◌<◌, ◌+◌, ℕ, List, [], ◌∷◌, ◌++◌, length, take, Option, Some, None}
+use Rattle.std.proofs.Common.{refl, sym, ap, ◌∙◌, arith, subst, append-nil}
+use Rattle.std.proofs.Math.ListN.{get_or}
+use Rattle.dsm_base.specs.declared.names.Proc.{Proc}
+use Rattle.dsm_base.specs.declared.errors.ReadErr.{ReadErr}
+use Rattle.dsm_base.specs.declared.label.Label.{Label}
+use Rattle.dsm_base.specs.declared.setup.Setup.{Setup}
+use Rattle.dsm_base.specs.Family.{update}
+use Rattle.dsm_base.specs.Output.{line_text, printed_of, printed_lines}
+use Rattle.dsm_base.specs.Plain.{Turn, PlainState, plain_turn, plain_after, after_run}
+use Rattle.dsm_base.specs.Sink.{appended, TakesPart}
+use Rattle.dsm_trace.specs.Processor.{ending_after}
+use Rattle.dsm_check.specs.Programs.{Program}
+use Rattle.dsm_check.specs.Semantics.{program_semantics}
+use Rattle.dsm_check.specs.SemanticsItems.{State}
+use Rattle.dsm_top.specs.declared.plain.PlainRun.{PlainRun}
+use Rattle.dsm_top.specs.Ended.{TakesFront}
+use Rattle.dsm_top.specs.PickRuns.{with_turn, first_states, program_run, endings_of}
+use Rattle.dsm_top.specs.PlainRuns.{endings_in, program_in, IsAt, next_turns}
+use Rattle.dsm_top.specs.Runs.{WroteCut}
+use Rattle.dsm_top.specs.Stub.{machine_of, AreFew}
+use Rattle.dsm_top.proofs.Applied.{part_cut}
+use Rattle.dsm_top.proofs.Counts.{AreAtMost, few_numbers}
+use Rattle.dsm_top.proofs.PickRuns.{next_is, next_pick, few_turns}
+use Rattle.dsm_top.proofs.Pieces.{part_of, next_taken}
+
+-- no number in a machine is too great behind so few turns
+pub few_at : (program : Program) (setup : Setup) (run : PlainRun) (turns : List Turn) → IsAt program setup run turns → length turns ≤ 500000 → AreFew (machine_of run.machine)
+few_at program setup run turns at few =
+    let numbers : AreAtMost (length turns) (machine_of run.machine) = subst (AreAtMost (length turns)) (sym at.machine) (few_numbers (first_states program setup.procs) (program_semantics program.functions) turns) in
+    record {
+      versions = λ lock. omega (arith, numbers.versions lock, few);
+      arrived = λ p bar. omega (arith, numbers.arrived p bar, few);
+    }
+
+-- a turn that was found is the one that is added, and what the parts of the run show of it
+module _ (program : Program) (setup : Setup) (old new : PlainRun) (turns : List Turn) (p : Proc) (at : IsAt program setup old turns)
+    (same_program : program_in new ≡ program_in old) (same_setup : new.machine.setup ≡ old.machine.setup) (count : length new.endings.list.items ≡ length old.endings.list.items) where
+  abbrev threads : _
+  threads = program_semantics program.functions
+
+  added : (found : Option Label) → plain_turn old.machine.setup (program_semantics (program_in old).functions) (machine_of old.machine) p.0 ≡ found → next_turns program setup turns p ≡ with_turn turns p.0 found
+  added found is =
+      let here : plain_turn setup (program_semantics program.functions) (machine_of old.machine) p.0 ≡ found =
+      (λ i. plain_turn (sym at.setup_is i) (program_semantics (sym at.program_is i).functions) (machine_of old.machine) p.0) ∙ is in
+      next_is setup (first_states program setup.procs) (program_semantics program.functions) (machine_of old.machine) turns p found at.machine here
+
+  pub at_turn : (label : Label) → plain_turn old.machine.setup (program_semantics (program_in old).functions) (machine_of old.machine) p.0 ≡ Some label
+      → machine_of new.machine ≡ plain_after (program_semantics (program_in old).functions) (machine_of old.machine) p.0 label
+      → endings_in new.endings ≡ update (endings_in old.endings) p.0 (ending_after (endings_in old.endings p.0) label)
+      → IsAt program setup new (next_turns program setup turns p)
+  at_turn label is machine endings = subst (IsAt program setup new) (sym (added (Some label) is)) record {
+    program_is = same_program ∙ at.program_is;
+    setup_is = same_setup ∙ at.setup_is;
+    machine = machine ∙ (λ i. plain_after (program_semantics (at.program_is i).functions) (at.machine i) p.0 label);
+    endings = endings ∙ ap (λ (known : ℕ → Option _). update known p.0 (ending_after (known p.0) label)) at.endings;
+    count = count ∙ at.count;
+  }
+
+  pub line_turn : (label : Label) (line : List ℕ) → plain_turn old.machine.setup (program_semantics (program_in old).functions) (machine_of old.machine) p.0 ≡ Some label → line ≡ printed_of p.0 (line_text label)
+      → printed_lines (next_turns program setup turns p) ≡ printed_lines turns ++ line
+  line_turn label line is printed = ap printed_lines (added (Some label) is) ∙ ap (λ bytes. printed_lines turns ++ bytes) (sym printed)
+
+  pub at_none : plain_turn old.machine.setup (program_semantics (program_in old).functions) (machine_of old.machine) p.0 ≡ None
+      → machine_of new.machine ≡ machine_of old.machine → endings_in new.endings ≡ endings_in old.endings → IsAt program setup new (next_turns program setup turns p)
+  at_none is machine endings = subst (IsAt program setup new) (sym (added None is)) record {
+    program_is = same_program ∙ at.program_is;
+    setup_is = same_setup ∙ at.setup_is;
+    machine = machine ∙ at.machine;
+    endings = endings ∙ at.endings;
+    count = count ∙ at.count;
+  }
+
+  pub line_none : (line : List ℕ) → plain_turn old.machine.setup (program_semantics (program_in old).functions) (machine_of old.machine) p.0 ≡ None → line ≡ []
+      → printed_lines (next_turns program setup turns p) ≡ printed_lines turns ++ line
+  line_none line is empty = ap printed_lines (added None is) ∙ (sym (append-nil (printed_lines turns)) ∙ ap (λ bytes. printed_lines turns ++ bytes) (sym empty))
+
+-- one more pick of a list
+module _ (program : Program) (setup : Setup) (picks : List Proc) (old new : ℕ) (p : Proc) (is : p ≡ get_or picks old p) (inside : old < length picks) (units : new ≡ old + 1) where
+  pub more_turns : program_run program setup (take new picks) ≡ next_turns program setup (program_run program setup (take old picks)) p
+  more_turns =
+      ap (λ n. program_run program setup (take n picks)) units ∙ next_pick setup (first_states program setup.procs) (program_semantics program.functions) picks old p is inside
+
+  more_lines : (line : List ℕ) → printed_lines (next_turns program setup (program_run program setup (take old picks)) p) ≡ printed_lines (program_run program setup (take old picks)) ++ line
+      → printed_lines (program_run program setup (take new picks)) ≡ printed_lines (program_run program setup (take old picks)) ++ line
+  more_lines line prints = ap printed_lines more_turns ∙ prints
+
+  pub wrote_more : (held before after : Option (List ℕ)) (line bytes : List ℕ) → printed_lines (next_turns program setup (program_run program setup (take old picks)) p) ≡ printed_lines (program_run program setup (take old picks)) ++ line
+      → bytes ≡ line → before ≡ appended held (printed_lines (program_run program setup (take old picks))) → after ≡ appended before bytes
+      → after ≡ appended held (printed_lines (program_run program setup (take new picks)))
+  wrote_more held before after line bytes prints same so_far more =
+      next_taken held before after (printed_lines (program_run program setup (take old picks))) line bytes so_far more same ∙ ap (appended held) (sym (more_lines line prints))
+
+  pub wrote_cut : (held before after : Option (List ℕ)) (line : List ℕ) (e : ReadErr) → printed_lines (next_turns program setup (program_run program setup (take old picks)) p) ≡ printed_lines (program_run program setup (take old picks)) ++ line
+      → before ≡ appended held (printed_lines (program_run program setup (take old picks))) → TakesPart before after line
+      → WroteCut held after (printed_lines (program_run program setup (take new picks))) e
+  wrote_cut held before after line e prints so_far part =
+      let done = printed_lines (program_run program setup (take old picks)) in
+      let all : done ++ (line ++ []) ≡ printed_lines (program_run program setup (take new picks)) = ap (λ one. done ++ one) (append-nil line) ∙ sym (more_lines line prints) in
+      part_cut held after (printed_lines (program_run program setup (take new picks))) e
+      (subst (TakesPart held after) all (part_of held before after done line [] so_far part))

@@ -1,0 +1,58 @@
+-- What stands ready before anything is written.
+use Rattle.std.specs.Prelude.{◌≡◌, ◌≤◌, ℕ, List, Option, Some, None, Result, Ok, Err, refl}
+use Rattle.std.specs.List.{AllByRecursion}
+use Rattle.dsm_base.specs.Causes.{Rose}
+use Rattle.dsm_trace.specs.Fits.{IsWithin}
+use Rattle.dsm_syntax.specs.declared.errors.ProgErr.{ProgErr}
+use Rattle.dsm_check.specs.declared.checked.Checked.{Checked}
+use Rattle.dsm_check.specs.Programs.{Program}
+use Rattle.dsm_check.specs.CheckedViews.{program_of}
+use Rattle.dsm_check.specs.Setups.{fitting}
+use Rattle.dsm_small.specs.Setups.{small_setup}
+use Rattle.dsm_top.specs.declared.status.Status.{Status}
+use Rattle.dsm_top.specs.declared.prepare.Prepared.{Prepared}
+use Rattle.dsm_top.specs.declared.prepare.SmallRun.{SmallRun}
+use Rattle.dsm_top.specs.declared.prepare.PickRun.{PickRun}
+use Rattle.dsm_top.specs.Command.{Command, run, check, plain}
+use Rattle.dsm_top.specs.Accepted.{Contents, IsAccepted, IsChecked, HasFitting, HasPicks}
+use Rattle.dsm_top.specs.Refusals.{Given, IsUnchecked}
+
+-- what a reader of programs answers; want of memory owes nothing
+abbrev pub GivesProgram : List ℕ → Result Checked ProgErr → Type 0
+GivesProgram text (Ok program) = IsChecked text (program_of program)
+GivesProgram text (Err ProgErr.Memory) = Unit {0}
+GivesProgram text (Err error) = IsUnchecked text error
+
+-- why a file of this number couldn't be read; want of memory owes nothing
+abbrev pub IsUnread : ℕ → ℕ → ℕ → Status → Type 0
+IsUnread number before after (Status.ReadFault file) = (file ≡ number) × Rose before after
+IsUnread number before after Status.Memory = Unit {0}
+IsUnread number before after _ = ⊥
+
+-- files were used in a part of the call: they hold what the call was given, and their count is between those of the call
+pub record IsPart (given : Given) (files : Contents) (before after : ℕ) : Type 0 where
+  pub same : given.files ≡ files
+  pub earlier : given.faults_before ≤ before
+  pub later : after ≤ given.faults_after
+
+-- a run can begin: each unit names processors of the setup
+pub record CanRun (prepared : SmallRun) : Type 0 where
+  pub procs : prepared.schedule.procs ≡ 2
+  pub within : AllByRecursion (IsWithin (small_setup prepared.program 2 refl)) prepared.schedule.units
+
+-- a run over one memory can begin: each owner is a processor
+abbrev pub CanPick : PickRun → Type 0
+CanPick prepared = fitting (program_of prepared.program) prepared.picks.procs ≡ Ok tt
+
+abbrev pub IsReady : Prepared → Type 0
+IsReady (Prepared.Run prepared) = CanRun prepared
+IsReady Prepared.Check = Unit {0}
+IsReady (Prepared.Plain prepared) = CanPick prepared
+
+-- what a command names is accepted, and this stands ready for it
+abbrev pub IsPrepared : Contents → Option Command → Prepared → Type 0
+IsPrepared files (Some (run program schedule)) (Prepared.Run prepared) = IsAccepted files program schedule prepared.program prepared.schedule.units
+IsPrepared files (Some (check program procs)) Prepared.Check = (found : Program) × HasFitting files program procs found
+IsPrepared files (Some (plain program picks)) (Prepared.Plain prepared) =
+    HasFitting files program prepared.picks.procs (program_of prepared.program) × HasPicks files picks prepared.picks.procs prepared.picks.entries
+IsPrepared files _ _ = ⊥
