@@ -1,4 +1,1 @@
-pub mod Values
-pub mod Tops
-pub mod Moves
-pub mod Finishing
+pub mod Families
