@@ -1,11 +1,10 @@
 -- An accepted program names only cells, locks and barriers that there are.
-use Rattle.std.proofs.Common.{◌≡◌, ℕ, ◌+◌, ◌<◌, ◌≤◌, ◌×◌, Bool, true, false, ◌&&◌, List, [], ◌∷◌, ◌++◌, bytes_eq, Option, Some, None, IfSome, Ok, Err, refl, subst, if◌then◌else◌, arith, IsProp}
+use Rattle.std.proofs.Common.{◌≡◌, ℕ, ◌+◌, ◌<◌, ◌≤◌, Bool, true, false, List, [], ◌∷◌, ◌++◌, bytes_eq, Option, Some, None, IfSome, Ok, Err, refl, subst, if◌then◌else◌, arith}
 use Rattle.std.specs.Prelude.{IsTrue}
 use Rattle.std.specs.List.{AllByRecursion, AllByRecursion-prop}
 use Rattle.std.proofs.lemmas.Bool.Decides.{nat_tests}
 use Rattle.std.proofs.Math.Logic.{∥∥₁_elim}
 use Rattle.std.proofs.Props.{props}
-use Rattle.dsm_base.specs.declared.setup.Piece.{Piece}
 use Rattle.dsm_syntax.specs.declared.errors.ProgErr.TheVariants as err
 use Rattle.dsm_syntax.specs.declared.errors.Which.TheVariants as which
 use Rattle.dsm_syntax.specs.declared.tree.Name.{Name}
@@ -15,15 +14,15 @@ use Rattle.dsm_check.specs.declared.names.Named.{Named}
 use Rattle.dsm_check.specs.declared.resolved.Array.{Array}
 use Rattle.dsm_check.specs.Resolved as r
 use Rattle.dsm_check.specs.Environments.{Entry, opened, known, meaning, closed, total, cells_in, locks_in, barriers_in}
-use Rattle.dsm_check.specs.Checks.{Check, ◌>>=◌, each, each_made, used, new, within}
+use Rattle.dsm_check.specs.Checks.{Check, each, each_made, used, new, within}
 use Rattle.dsm_check.specs.Numbers.{is_numbered, is_next}
 use Rattle.dsm_check.specs.FileNames.{file_names, main_of, main_name, params_of}
 use Rattle.dsm_check.specs.Bindings.{as_barrier, pieces_of}
-use Rattle.dsm_check.specs.Bodies.{Scope, Around, as_single, as_array, as_called, count_of, resolve_place, resolve, resolve_all, resolve_call, resolve_effect, optional, with_variable, resolve_variable, open_block, closing, as_one_lock, as_lock_array, resolve_lock, resolve_part, all_made, text_bytes, resolve_print, resolve_start, is_void, resolve_return, resolve_statement, resolve_statements, resolve_function, with_body, functions_of}
+use Rattle.dsm_check.specs.Bodies.{Scope, Around, as_single, as_array, as_called, count_of, resolve_place, resolve, resolve_all, resolve_effect, optional, with_variable, resolve_variable, open_block, closing, as_one_lock, as_lock_array, resolve_lock, resolve_part, all_made, text_bytes, resolve_print, resolve_start, is_void, resolve_return, resolve_statement, resolve_statements, resolve_function, with_body, functions_of}
 use Rattle.dsm_check.specs.Programs.{Program, checked}
 use Rattle.dsm_check.specs.Accepted.{IsAccepted}
 use Rattle.dsm_check.specs.SemanticsWithin.{Extent, IsArrayBelow, IsCellWithin, IsArrayWithin, IsLocationWithin, IsWithin, AreWithin, IsOptionWithin, AreVariablesWithin, IsPartWithin, ArePartsWithin, IsStartWithin, IsLockWithin, IsStatementWithin, AreStatementsWithin, AreFunctionsWithin}
-use Rattle.dsm_check.proofs.Successes.{then_ok, then_in, if_ok, each_keeps, both_true}
+use Rattle.dsm_check.proofs.Successes.{then_in, each_keeps, both_true}
 
 ok_in : {A : Type 0} (P : A → Type 0) (a b : A) → ◌≡◌ {A = Check A} (Ok a) (Ok b) → P a → P b
 ok_in P a b h p = let same : a ≡ b = cc in subst P same p

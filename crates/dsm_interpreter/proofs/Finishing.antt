@@ -1,5 +1,5 @@
 -- What is done for a labelled step is what its label makes of the state.
-use Rattle.std.proofs.Common.{◌≡◌, ℕ, ℤ, pos, Bool, true, false, cond, nat_lt, List, [], ◌∷◌, Option, Some, None, Ok, Err, length, drop, refl, sym, ap, ◌∙◌, subst}
+use Rattle.std.proofs.Common.{◌+◌, ◌≡◌, ℕ, ℤ, pos, Bool, true, false, cond, nat_lt, List, [], ◌∷◌, Option, Some, None, Ok, Err, length, drop, refl, sym, ap, ◌∙◌, subst}
 use Rattle.std.specs.Prelude.{slice_get}
 use Rattle.dsm_base.specs.declared.label.Want.{Want}
 use Rattle.dsm_base.specs.declared.label.Label.{Label}
@@ -9,7 +9,7 @@ use Rattle.dsm_check.specs.Resolved as r
 use Rattle.dsm_check.specs.SemanticsValues.{Outcome, holds, unary_value, step_value, binary_value}
 use Rattle.dsm_check.specs.SemanticsSteps.{Move, goes, asks, want_of, next_of, answer_of}
 use Rattle.dsm_check.specs.SemanticsItems.{Place, slot, cell, member, Use, Item, evaluate, evaluate_all, test_index, load, store, unary, step_by, binary, and_then, or_else, to_truth, choose, enter, discard, execute, run, declare, branch, round, decide, third_part, jump_back, leave, ask, take_lock, give, cross, gather, print, Frame, Life, going, ended, stopped, State, top, below, over}
-use Rattle.dsm_check.specs.Semantics.{member_number, at_member, loads, load_at, stores, store_at, comes_to, numbered, entered, returns, declaring, declaration, gathering, lock_line, lock_number, evaluation, evaluation_of_all, execution, execution_of_all, act, act_first, step_in, step, completed}
+use Rattle.dsm_check.specs.Semantics.{below_index, values_in, member_number, at_member, loads, load_at, stores, store_at, comes_to, numbered, entered, returns, declaring, declaration, gathering, lock_line, lock_number, evaluation, evaluation_of_all, execution, execution_of_all, act, act_first, step_in, step, completed}
 use Rattle.dsm_interpreter.specs.Finished.{load_finished, store_finished, statement_finished, return_finished, finished, all_finished}
 
 -- the state after a label, by what the step of the state was
@@ -46,16 +46,16 @@ module _ (s : State) (answer : ℤ) where
   by_label move label known is = ap (after_label s move) is
 
   asks_leads : (want : Want) (after : ℤ → State) → Leads (asks want after) (result_of want after)
-  asks_leads Want.Quiet after label c = by_label _ label Label.Quiet c
-  asks_leads (Want.Load number line) after label c = by_label _ label (Label.Load number answer) c
-  asks_leads (Want.Store number value line) after label c = by_label _ label (Label.Store number value) c
-  asks_leads (Want.Ask lock mode line) after label c = by_label _ label (Label.Ask lock mode) c
-  asks_leads (Want.Take lock mode) after label c = by_label _ label (Label.Take lock mode c.0) c.1
-  asks_leads (Want.Give lock line) after label c = by_label _ label (Label.Give lock) c
-  asks_leads (Want.Arrive bar) after label c = by_label _ label (Label.Arrive bar) c
-  asks_leads (Want.Cross bar) after label c = by_label _ label (Label.Cross bar c.0) c.1
-  asks_leads Want.Line after label c = by_label _ label (Label.Line c.0) c.1
-  asks_leads Want.End after label c = by_label _ label Label.End c
+  asks_leads Want.Quiet after label c = by_label (asks Want.Quiet after) label Label.Quiet c
+  asks_leads (Want.Load number line) after label c = by_label (asks (Want.Load number line) after) label (Label.Load number answer) c
+  asks_leads (Want.Store number value line) after label c = by_label (asks (Want.Store number value line) after) label (Label.Store number value) c
+  asks_leads (Want.Ask lock mode line) after label c = by_label (asks (Want.Ask lock mode line) after) label (Label.Ask lock mode) c
+  asks_leads (Want.Take lock mode) after label c = by_label (asks (Want.Take lock mode) after) label (Label.Take lock mode c.0) c.1
+  asks_leads (Want.Give lock line) after label c = by_label (asks (Want.Give lock line) after) label (Label.Give lock) c
+  asks_leads (Want.Arrive bar) after label c = by_label (asks (Want.Arrive bar) after) label (Label.Arrive bar) c
+  asks_leads (Want.Cross bar) after label c = by_label (asks (Want.Cross bar) after) label (Label.Cross bar c.0) c.1
+  asks_leads Want.Line after label c = by_label (asks Want.Line after) label (Label.Line c.0) c.1
+  asks_leads Want.End after label c = by_label (asks Want.End after) label Label.End c
   asks_leads (Want.Stop fault line) after label c = absurd c
   asks_leads Want.Over after label c = absurd c
 
@@ -132,7 +132,7 @@ module _ (s : State) (answer : ℤ) where
     leads_execution (r.return (Some e)) = λ label c. absurd c
     leads_execution (r.acquire lock mode) = λ label c. absurd c
     leads_execution (r.release lock) = λ label c. absurd c
-    leads_execution (r.barrier bar) = asks_leads (Want.Arrive bar) _
+    leads_execution (r.barrier bar) = asks_leads (Want.Arrive bar) (λ answer. record u { todo = cross bar ∷ u.todo })
     leads_execution (r.print parts) = λ label c. absurd c
 
     leads_statements : (statements : r.Statements) → Leads (execution_of_all u statements) u
@@ -146,7 +146,8 @@ module _ (s : State) (answer : ℤ) where
 
     leads_returns : (value : ℤ) (outer : List Frame) → Leads (returns u value outer) (return_finished u value outer)
     leads_returns value [] = asks_leads Want.End (λ answer. u)
-    leads_returns value (caller ∷ outer) = asks_leads Want.Quiet _
+    leads_returns value (caller ∷ outer) =
+        asks_leads Want.Quiet (λ answer. record u { todo = caller.todo; operands = value ∷ caller.operands; slots = caller.slots; outer = outer })
 
     leads_act : (functions : List r.Function) (item : Item) → Leads (act functions u item) (finished functions u item answer)
     leads_act functions (evaluate e) = leads_evaluation e
@@ -171,14 +172,14 @@ module _ (s : State) (answer : ℤ) where
     leads_act functions (round loop) = λ label c. absurd c
     leads_act functions (decide loop) = λ label c. absurd c
     leads_act functions (third_part loop) = λ label c. absurd c
-    leads_act functions (jump_back loop) = asks_leads Want.Quiet _
+    leads_act functions (jump_back loop) = asks_leads Want.Quiet (λ answer. record u { todo = round loop ∷ u.todo })
     leads_act functions leave = leads_returns (top s.operands) s.outer
-    leads_act functions (ask lock mode) = leads_member u (lock_line lock) (lock_number lock s.operands) _ _ (λ number. asks_leads (Want.Ask (record { 0 = number }) mode (lock_line lock)) _)
-    leads_act functions (take_lock lock mode) = leads_member u (lock_line lock) (lock_number lock s.operands) _ _ (λ number. asks_leads (Want.Take (record { 0 = number }) mode) _)
-    leads_act functions (give lock) = leads_member u (lock_line lock) (lock_number lock s.operands) _ _ (λ number. asks_leads (Want.Give (record { 0 = number }) (lock_line lock)) _)
-    leads_act functions (cross bar) = asks_leads (Want.Cross bar) _
+    leads_act functions (ask lock mode) = leads_member u (lock_line lock) (lock_number lock s.operands) _ _ (λ number. asks_leads (Want.Ask (record { 0 = number }) mode (lock_line lock)) (λ answer. record u { todo = take_lock lock mode ∷ u.todo }))
+    leads_act functions (take_lock lock mode) = leads_member u (lock_line lock) (lock_number lock s.operands) _ _ (λ number. asks_leads (Want.Take (record { 0 = number }) mode) (λ answer. record u { operands = below_index lock u.operands }))
+    leads_act functions (give lock) = leads_member u (lock_line lock) (lock_number lock s.operands) _ _ (λ number. asks_leads (Want.Give (record { 0 = number }) (lock_line lock)) (λ answer. record u { operands = below_index lock u.operands }))
+    leads_act functions (cross bar) = asks_leads (Want.Cross bar) (λ answer. u)
     leads_act functions (gather parts) = leads_gathering parts
-    leads_act functions (print parts) = asks_leads Want.Line _
+    leads_act functions (print parts) = asks_leads Want.Line (λ answer. record u { operands = drop (values_in parts) u.operands })
 
   leads_first : (functions : List r.Function) (todo : List Item) → Leads (act_first functions (record s { todo = todo }) todo) (all_finished functions s todo answer)
   leads_first functions [] = leads_returns [] (pos 0) s.outer

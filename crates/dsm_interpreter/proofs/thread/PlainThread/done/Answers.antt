@@ -1,6 +1,8 @@
-use Rattle.std.proofs.Common.{◌≡◌, Result, Ok, Err, OnOk, sym, ◌∙◌, map}
+use Rattle.std.proofs.Common.{◌≡◌, Result, Ok, Err, OnOk, sym, ap, ◌∙◌, map, w64}
+use Rattle.std.proofs.lemmas.Int.{to_z-of_z}
 use Rattle.dsm_base.specs.declared.errors.MemFault.{MemFault}
 use Rattle.dsm_check.specs.Views.{view_function}
+use Rattle.dsm_interpreter.specs.Finished.{all_finished}
 use Rattle.dsm_interpreter.specs.Threads.{state_of}
 use Rattle.dsm_interpreter.proofs.Finishing.{finished_is}
 use Rattle.dsm_interpreter.proofs.thread.PlainThread.done.Goals as goal
@@ -12,5 +14,8 @@ on_ok (Err fault) a f = tt
 -- what is left is what the label leaves
 pub returns : goal.returns
 returns c =
+    let functions = map view_function c.args.functions.now in
+    let state = state_of c.args.self.now in
     on_ok c.finish.result c.finish.ensures
-    (λ is label completes. is ∙ sym (finished_is (map view_function c.args.functions.now) (state_of c.args.self.now) c.args.answer label completes))
+    (λ is label completes.
+    is ∙ ap (all_finished functions state state.todo) (to_z-of_z w64 c.args.answer c.ranges.answer) ∙ sym (finished_is functions state c.args.answer label completes))
