@@ -1,1 +1,4 @@
 pub mod Families
+pub mod Outcomes
+pub mod Extents
+pub mod States

@@ -69,7 +69,7 @@ pub fn start_standings(
     ensures sizes { IfOk result (λ standings. All (HasSizes locks bars) standings.items) }
 {
     let mut standings = Vec::new(alloc);
-    for _ in 0..procs {
+    for _at in 0..procs {
         standings.push(Standing::new(alloc, locks, bars)?)?;
     }
     Ok(standings)

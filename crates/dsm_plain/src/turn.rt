@@ -7,6 +7,7 @@ ghost use Rattle.dsm_base.specs.declared.label.Label.{Label};
 ghost use Rattle.dsm_base.specs.declared.label.Want.{Want};
 ghost use Rattle.dsm_check.specs.Views.{view_function};
 ghost use Rattle.dsm_check.specs.Semantics.{step, ready, completed};
+ghost use Rattle.dsm_check.specs.SemanticsSteps;
 ghost use Rattle.dsm_check.specs.SemanticsSteps.{want_of};
 ghost use Rattle.dsm_interpreter.specs.Sound.{IsSoundState};
 ghost use Rattle.dsm_interpreter.specs.Threads.{state_of};
@@ -49,6 +50,34 @@ fn change_versions(versions: &mut Numbers, standing: &Standing, label: &Label)
     }
 }
 
+/// What a label answers: a load its value.
+fn answer_of(label: &Label) -> i64
+    ensures { result ≡ SemanticsSteps.answer_of label.now }
+{
+    match label {
+        Label::Load(_, value) => *value,
+        _ => 0,
+    }
+}
+
+/// A thread completes what it wants.
+fn go_on<'a>(
+    thread: &mut PlainThread<'a>,
+    functions: &'a [Function],
+    label: &Label,
+) -> Result<(), MemFault>
+    requires { Follows (want_of (step (map view_function functions.now) (state_of thread.old))) label.now }
+    ensures { OnOk result (state_of thread.new ≡ completed (map view_function functions.now) (state_of thread.old) label.now) }
+{
+    match label {
+        Label::Stop(fault, line) => {
+            thread.stop(*fault, *line);
+            Ok(())
+        }
+        _ => thread.done(functions, answer_of(label)),
+    }
+}
+
 /// A thread goes on behind a label, up to its next labelled step.
 fn advance<'a>(
     thread: &mut PlainThread<'a>,
@@ -59,11 +88,7 @@ fn advance<'a>(
     requires sound { IsSoundState (completed (map view_function functions.now) (state_of thread.old) label.now) }
     ensures { OnOk result (state_of thread.new ≡ ready (map view_function functions.now) (completed (map view_function functions.now) (state_of thread.old) label.now)) }
 {
-    match label {
-        Label::Stop(fault, line) => thread.stop(*fault, *line),
-        Label::Load(_, value) => thread.done(functions, *value)?,
-        _ => thread.done(functions, 0)?,
-    }
+    go_on(thread, functions, label)?;
     thread.want()?;
     Ok(())
 }

@@ -1,12 +1,11 @@
 //! What a pick tells, and who keeps a processor waiting.
 
-ghost use Rattle.std.specs.Prelude.{◌≡◌, IfOk};
+ghost use Rattle.std.specs.Prelude.{◌≡◌, ◌≤◌, Some, length, IfOk};
 ghost use Rattle.std.specs.Option.{option_to_list};
-ghost use Rattle.dsm_base.specs.Plain;
-ghost use Rattle.dsm_plain.specs.Machine.{machine_of, standing_at, held_of, arrived_of};
+ghost use Rattle.dsm_base.specs.Plain as one_memory;
+ghost use Rattle.dsm_plain.specs.Machine.{standing_at, held_of, arrived_of};
 ghost use Rattle.dsm_plain.specs.Waiting;
 
-use crate::machine::Plain;
 use crate::standing::Standing;
 use dsm_base::{Bar, Label, Lock, MemFault, Mode, Proc};
 use sqlite_items::Items;
@@ -40,7 +39,7 @@ pub enum Picked {
 
 /// Whether another's hold may stand beside one in this mode.
 fn may_stand_beside(mode: Mode, other: Mode) -> bool
-    ensures { result ≡ Plain.may_stand_beside mode (Some other) }
+    ensures { result ≡ one_memory.may_stand_beside mode (Some other) }
 {
     mode == Mode::Shared && other == Mode::Shared
 }
