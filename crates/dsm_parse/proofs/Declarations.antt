@@ -7,11 +7,11 @@ use Rattle.dsm_syntax.specs.declared.tree.Declarator.{Declarator}
 use Rattle.dsm_syntax.specs.declared.tree.Sharing.{Sharing}
 use Rattle.dsm_syntax.specs.Tree as t
 use Rattle.dsm_syntax.specs.Tree.{Item}
-use Rattle.dsm_parse.specs.Lexemes.{Lexeme, named, word, sign}
+use Rattle.dsm_cursor.specs.Lexemes.{Lexeme, named, word, sign}
 use Rattle.dsm_parse.specs.Grammar.{spell_size, spell_declarator, spell_name, spell_list, spell_more, spell_item, Listed, HasSome, FitsItem}
 use Rattle.dsm_parse.specs.Heights.{height_item}
-use Rattle.dsm_parse.specs.Reading.{ok, and_then, tail, is_sign, ended_by, more_of, list_of}
-use Rattle.dsm_parse.specs.Tokens.{read_name, read_number}
+use Rattle.dsm_cursor.specs.Reading.{ok, and_then, tail, is_sign, ended_by, more_of, list_of}
+use Rattle.dsm_cursor.specs.Tokens.{read_name, read_number}
 use Rattle.dsm_parse.specs.Items.{size, declarator_of, declarator, locks, barriers, shared_data, private_data}
 use Rattle.dsm_parse.proofs.Fronts.{is_sign_look}
 use Rattle.dsm_parse.proofs.Good.{Language, Free, Spelled, Begins, Good, good_ok, good_weaken, good_map, good_then, good_next, good_if, good_word, good_behind_sign, good_end}

@@ -6,11 +6,11 @@ use Rattle.dsm_syntax.specs.declared.tree.Name.{Name}
 use Rattle.dsm_syntax.specs.declared.tree.Returns.{Returns}
 use Rattle.dsm_syntax.specs.Tree as t
 use Rattle.dsm_syntax.specs.Tree.{Item, Params, Statements}
-use Rattle.dsm_parse.specs.Lexemes.{Lexeme, named, word, sign}
+use Rattle.dsm_cursor.specs.Lexemes.{Lexeme, named, word, sign}
 use Rattle.dsm_parse.specs.Grammar.{spell_param, spell_params, spell_returns, spell_list, spell_item, spell_body, FitsItem, FitsParams, FitStatements}
 use Rattle.dsm_parse.specs.Heights.{height_statements}
-use Rattle.dsm_parse.specs.Reading.{ok, and_then, tail, is_sign, is_word, list_of}
-use Rattle.dsm_parse.specs.Tokens.{read_name}
+use Rattle.dsm_cursor.specs.Reading.{ok, and_then, tail, is_sign, is_word, list_of}
+use Rattle.dsm_cursor.specs.Tokens.{read_name}
 use Rattle.dsm_parse.specs.Statements.{body}
 use Rattle.dsm_parse.specs.Items.{param, params, function_of, private_data, int_item, void_item}
 use Rattle.dsm_parse.proofs.Fronts.{is_sign_look, is_word_look}

@@ -9,12 +9,12 @@ use Rattle.dsm_syntax.specs.declared.tree.Returns.TheVariants as returns
 use Rattle.dsm_syntax.specs.declared.tree.Sharing.TheVariants as sharing
 use Rattle.dsm_syntax.specs.Tree as t
 use Rattle.dsm_syntax.specs.Tree.{Item}
-use Rattle.dsm_parse.specs.declared.refusal.Refusal.{Refusal}
-use Rattle.dsm_parse.specs.Gives.{Gives}
-use Rattle.dsm_parse.specs.Lexemes.{Lexeme, named, numeral, quoted, word, sign, word_at, sign_at}
+use Rattle.dsm_cursor.specs.declared.refusal.Refusal.{Refusal}
+use Rattle.dsm_cursor.specs.Gives.{Gives}
+use Rattle.dsm_cursor.specs.Lexemes.{Lexeme, named, numeral, quoted, word, sign, word_at, sign_at}
 use Rattle.dsm_parse.specs.Grammar.{spell_item, spell_name, FitsItem}
 use Rattle.dsm_parse.specs.Heights.{height_item, highest}
-use Rattle.dsm_parse.specs.Reading.{Read, ok, unexpected, look, tail, gathered}
+use Rattle.dsm_cursor.specs.Reading.{Read, ok, unexpected, look, tail, gathered}
 use Rattle.dsm_parse.specs.Items.{item, goes_on, items}
 use Rattle.dsm_parse.proofs.Fronts.{Looks, nil_of, cons_of}
 use Rattle.dsm_parse.proofs.Good.{Language, Free, Spelled, Begins, Good, good_as, good_after, good_unexpected, shorter}

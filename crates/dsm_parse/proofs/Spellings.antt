@@ -11,11 +11,11 @@ use Rattle.dsm_syntax.specs.declared.tree.Sharing.{Sharing}
 use Rattle.dsm_syntax.specs.declared.tree.Sharing.TheVariants as sharing
 use Rattle.dsm_syntax.specs.Tree as t
 use Rattle.dsm_syntax.specs.Tree.{Item, Params, Statements}
-use Rattle.dsm_parse.specs.Lexemes.{Lexeme, named, numeral, word, sign, word_at}
+use Rattle.dsm_cursor.specs.Lexemes.{Lexeme, named, numeral, word, sign, word_at}
 use Rattle.dsm_parse.specs.Grammar.{end_of_binding, spell_size, spell_declarator, spell_name, spell_param, spell_params, spell_returns, spell_list, spell_more, spell_item, spell_body, Listed, HasSome, FitsItem, FitsParams, FitStatements}
 use Rattle.dsm_parse.specs.Heights.{height_item, height_statements, highest}
-use Rattle.dsm_parse.specs.Reading.{Read, ok, and_then, is_sign, ended_by, after_sign, more_of, list_of}
-use Rattle.dsm_parse.specs.Tokens.{read_name}
+use Rattle.dsm_cursor.specs.Reading.{Read, ok, and_then, is_sign, ended_by, after_sign, more_of, list_of}
+use Rattle.dsm_cursor.specs.Tokens.{read_name}
 use Rattle.dsm_parse.specs.Statements.{body}
 use Rattle.dsm_parse.specs.Items.{size, declarator_of, declarator, locks, barriers, shared_data, private_data, param, params, function_of, int_item, item, goes_on, items}
 use Rattle.dsm_parse.proofs.Repeats.{all_reads, all_low}

@@ -3,11 +3,10 @@
 ghost use Rattle.std.specs.Prelude.{◌≡◌, ◌≤◌, ◌<◌, Some, OnOk, OnErr};
 ghost use Rattle.dsm_syntax.specs.Views.{view};
 ghost use Rattle.dsm_parse.specs.Operators.{binary_level};
-ghost use Rattle.dsm_parse.specs.Reading.{look, tail};
+ghost use Rattle.dsm_cursor.specs.Reading.{look, tail};
 ghost use Rattle.dsm_parse.specs.Signs.{step_op, lead_sign, lead, is_lead, infix_op, step_of, infix_of, infix_tightness};
 
-use crate::cursor::Cursor;
-use crate::refusal::Refusal;
+use dsm_cursor::Cursor;
 use dsm_syntax::{AssignOp, BinaryOp, Expr, Sign, StepOp, TokenKind, UnaryOp};
 
 /// What stands between operands.
