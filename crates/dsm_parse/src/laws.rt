@@ -1,6 +1,6 @@
 //! Laws of the grammar of trees. Each is proved of all tokens, and calls nothing.
 
-ghost use Rattle.std.specs.Prelude.{◌≡◌, ◌≢◌, ◌⊎◌, ◌<◌, ◌≤◌, ◌+◌, ◌++◌, ℕ, List, length, take};
+ghost use Rattle.std.specs.Prelude.{◌≡◌, ◌≢◌, ◌⊎◌, ◌<◌, ◌+◌, ◌++◌, ℕ, List, length, take};
 ghost use Rattle.dsm_syntax.specs.declared.errors.ProgErr.{ProgErr};
 ghost use Rattle.dsm_syntax.specs.declared.token.Token.{Token};
 ghost use Rattle.dsm_syntax.specs.Tree.{Item};

@@ -1,6 +1,6 @@
 //! Whole programs.
 
-ghost use Rattle.std.specs.Prelude.{◌≡◌, ◌≢◌, ◌≤◌, ◌⊎◌, List, IfOk, IfErr, MatchResult};
+ghost use Rattle.std.specs.Prelude.{◌≡◌, ◌≢◌, ◌⊎◌, List, IfOk, IfErr, MatchResult};
 ghost use Rattle.dsm_syntax.specs.declared.errors.ProgErr.{ProgErr};
 ghost use Rattle.dsm_syntax.specs.Tree.{Item};
 ghost use Rattle.dsm_syntax.specs.Programs.{view_tree};

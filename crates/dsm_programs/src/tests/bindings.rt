@@ -15,8 +15,14 @@ fn bindings(rt: HostRuntime) -> Result<(), Fail> {
             "bind(L, a, 2, 1);\nbind(L, a, 1, 1);\nbind(L, a, 0, 4);",
             "overlap 2 4",
         ),
-        ("bind(L, a, 0, 2);\nbindb(B, a, 1, 1, 0, 0, 1);", "overlap 2 3"),
-        ("bindb(B, x, 0, 1, 0, 0, 1);\nbind(L, x, 0, 1);", "overlap 0 3"),
+        (
+            "bind(L, a, 0, 2);\nbindb(B, a, 1, 1, 0, 0, 1);",
+            "overlap 2 3",
+        ),
+        (
+            "bindb(B, x, 0, 1, 0, 0, 1);\nbind(L, x, 0, 1);",
+            "overlap 0 3",
+        ),
         ("bind(K, a, 0, 1);", "unknown K 2"),
         ("bindeach(K, a, 1);", "unknown K 2"),
         ("bindb(K, a, 0, 1, 0, 0, 1);", "unknown K 2"),
@@ -58,8 +64,14 @@ fn bindings(rt: HostRuntime) -> Result<(), Fail> {
         ("bind(L, a, 0, 0);\nbind(K, a, 0, 1);", "range 2"),
         ("bind(K, a, 0, 1);\nbind(L, a, 0, 0);", "unknown K 2"),
         ("bind(L, a, 0, 4);\nbind(L, a, 3, 2);", "range 3"),
-        ("bind(L, x, 0, 1);\nbind(L, x, 0, 1);\nbind(K, x, 0, 1);", "overlap 0 3"),
-        ("bind(L, x, 0, 1);\nbind(K, x, 0, 1);\nbind(L, x, 0, 1);", "unknown K 3"),
+        (
+            "bind(L, x, 0, 1);\nbind(L, x, 0, 1);\nbind(K, x, 0, 1);",
+            "overlap 0 3",
+        ),
+        (
+            "bind(L, x, 0, 1);\nbind(K, x, 0, 1);\nbind(L, x, 0, 1);",
+            "unknown K 3",
+        ),
         ("bind(K, a, 0, 1); int x;", "twice x 2"),
         ("bind(K, a, 0, 1); int h() { break; }", "unknown K 2"),
         ("int h() { break; } bind(K, a, 0, 1);", "unknown K 2"),

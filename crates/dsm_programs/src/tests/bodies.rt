@@ -113,7 +113,10 @@ fn bodies(rt: HostRuntime) -> Result<(), Fail> {
         ),
         ("void h() { late = 1; } shared int late;", "accepted"),
         ("void h() { k = 1; } void i() { break; }", "unknown k 1"),
-        ("void h() { break; } void i() { k = 1; }", "outside a loop 1"),
+        (
+            "void h() { break; } void i() { k = 1; }",
+            "outside a loop 1",
+        ),
     ];
     for (items, wanted) in table {
         let text = format!(in alloc; "{items}{NOTHING}")?;

@@ -105,6 +105,9 @@ fn limits_of_a_file(rt: HostRuntime) -> Result<(), Fail> {
     let text = format!(in alloc; "int f; {wide}")?;
     assert_eq!(rt; answer(alloc, text.as_str())?.as_str(), "twice f 1");
     let text = format!(in alloc; "{}{wide}", functions(alloc, 256)?)?;
-    assert_eq!(rt; answer(alloc, text.as_str())?.as_str(), "limit Functions 257");
+    assert_eq!(rt;
+        answer(alloc, text.as_str())?.as_str(),
+        "limit Functions 257"
+    );
     Ok(())
 }

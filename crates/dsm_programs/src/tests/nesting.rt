@@ -41,7 +41,11 @@ fn functions_may_be_64_nodes_high(rt: HostRuntime) -> Result<(), Fail> {
         let before = repeated(alloc, opening, most)?;
         let behind = repeated(alloc, closing, most)?;
         let text = format!(in alloc; "int f() {{{head}{before}{middle}{behind}{end}}}")?;
-        assert_eq!(rt; refusal(alloc, text.as_str())?.as_str(), "accepted", "{text}");
+        assert_eq!(rt;
+            refusal(alloc, text.as_str())?.as_str(),
+            "accepted",
+            "{text}"
+        );
         let inner = format!(in alloc; "{opening}{middle}{closing}")?;
         let text = format!(in alloc; "int f() {{{head}{before}{inner}{behind}{end}}}")?;
         assert_eq!(rt; refusal(alloc, text.as_str())?.as_str(), TOO_HIGH, "{text}");
@@ -82,7 +86,11 @@ fn too_high_is_refused_where_it_is_certain(rt: HostRuntime) -> Result<(), Fail> 
     for (before, times, allowed, refused) in table {
         let before = repeated(alloc, before, times)?;
         let text = format!(in alloc; "int f() {{{before}{allowed}")?;
-        assert_eq!(rt; refusal(alloc, text.as_str())?.as_str(), UNEXPECTED, "{text}");
+        assert_eq!(rt;
+            refusal(alloc, text.as_str())?.as_str(),
+            UNEXPECTED,
+            "{text}"
+        );
         let text = format!(in alloc; "int f() {{{before}{refused}")?;
         assert_eq!(rt; refusal(alloc, text.as_str())?.as_str(), TOO_HIGH, "{text}");
     }
