@@ -3,8 +3,8 @@ use Rattle.std.specs.Prelude.{ℕ, ℤ, Bool, true, false, List, ◌∷◌, Opti
 use Rattle.dsm_syntax.specs.declared.sign.Sign.{Sign}
 use Rattle.dsm_syntax.specs.declared.word.Word.{Word}
 use Rattle.dsm_syntax.specs.declared.tree.Name.{Name}
-use Rattle.dsm_parse.specs.Lexemes.{Lexeme, named, numeral, quoted, word, word_at, sign_at}
-use Rattle.dsm_parse.specs.Reading.{Reader, ok, unexpected}
+use Rattle.dsm_cursor.specs.Lexemes.{Lexeme, named, numeral, quoted, word, word_at, sign_at}
+use Rattle.dsm_cursor.specs.Reading.{Reader, ok, unexpected}
 
 -- a name that has to come next
 abbrev pub read_name : Reader Name

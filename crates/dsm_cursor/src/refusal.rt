@@ -16,7 +16,7 @@ pub enum Refusal {
 
 impl From<AllocError> for Refusal {
     ghost use Rattle.std.specs.Prelude.{◌≡◌};
-    ghost use Rattle.dsm_parse.specs.declared.refusal.Refusal.TheVariants.{Memory};
+    ghost use Rattle.dsm_cursor.specs.declared.refusal.Refusal.TheVariants.{Memory};
 
     ghost from_gives = { λ _ refusal. refusal ≡ Memory };
 
@@ -27,7 +27,7 @@ impl From<AllocError> for Refusal {
 
 impl<T: Drop> From<AllocFailed<T>> for Refusal {
     ghost use Rattle.std.specs.Prelude.{◌≡◌};
-    ghost use Rattle.dsm_parse.specs.declared.refusal.Refusal.TheVariants.{Memory};
+    ghost use Rattle.dsm_cursor.specs.declared.refusal.Refusal.TheVariants.{Memory};
 
     ghost from_gives = { λ _ refusal. refusal ≡ Memory };
 
@@ -38,7 +38,7 @@ impl<T: Drop> From<AllocFailed<T>> for Refusal {
 
 impl From<MemFault> for Refusal {
     ghost use Rattle.std.specs.Prelude.{◌≡◌};
-    ghost use Rattle.dsm_parse.specs.declared.refusal.Refusal.TheVariants.{Memory};
+    ghost use Rattle.dsm_cursor.specs.declared.refusal.Refusal.TheVariants.{Memory};
 
     ghost from_gives = { λ _ refusal. refusal ≡ Memory };
 

@@ -1,10 +1,10 @@
 //! The tokens that are left to read.
 
 ghost use Rattle.std.specs.Prelude.{◌≡◌, length, nat_eq, true, false, OnOk, OnErr};
-ghost use Rattle.dsm_parse.specs.Lexemes.{lexemes, is_placed_sign, is_placed_word};
-ghost use Rattle.dsm_parse.specs.Reading.{look, tail, is_sign, is_word};
-ghost use Rattle.dsm_parse.specs.Tokens.{read_name, read_number, read_string, is_name, is_string, next_number, plain_word, placed_word, placed_sign};
-ghost use Rattle.dsm_parse.specs.Gives.{Gives};
+ghost use Rattle.dsm_cursor.specs.Lexemes.{lexemes, is_placed_sign, is_placed_word};
+ghost use Rattle.dsm_cursor.specs.Reading.{look, tail, is_sign, is_word};
+ghost use Rattle.dsm_cursor.specs.Tokens.{read_name, read_number, read_string, is_name, is_string, next_number, plain_word, placed_word, placed_sign};
+ghost use Rattle.dsm_cursor.specs.Gives.{Gives};
 
 use crate::refusal::Refusal;
 use dsm_base::Text;
@@ -53,7 +53,7 @@ pub struct Cursor<'a> {
 
 impl<'a> Model for Cursor<'a> {
     ghost use Rattle.std.specs.Prelude.{List};
-    ghost use Rattle.dsm_parse.specs.Lexemes.{Lexeme, lexemes};
+    ghost use Rattle.dsm_cursor.specs.Lexemes.{Lexeme, lexemes};
 
     ghost Value = { List Lexeme };
 

@@ -5,7 +5,7 @@ use Rattle.dsm_syntax.specs.contracts.sign.Sign as sign_type
 use Rattle.dsm_syntax.specs.contracts.word.Word as word_type
 use Rattle.dsm_syntax.specs.declared.sign.Sign.{Sign}
 use Rattle.dsm_syntax.specs.declared.word.Word.{Word}
-use Rattle.dsm_parse.specs.Lexemes.{Lexeme, word, sign}
+use Rattle.dsm_cursor.specs.Lexemes.{Lexeme, word, sign}
 
 -- a value and what is left, or what is left from the token that is refused: for no program has it there, or only programs
 -- that are too high

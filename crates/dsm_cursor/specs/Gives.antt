@@ -1,8 +1,8 @@
 -- What a reader in the code answers.
 use Rattle.std.specs.Prelude.{◌≡◌, List, Result, Ok, Err}
-use Rattle.dsm_parse.specs.declared.refusal.Refusal.{Refusal}
-use Rattle.dsm_parse.specs.Lexemes.{Lexeme}
-use Rattle.dsm_parse.specs.Reading.{Read, ok, unexpected, too_high}
+use Rattle.dsm_cursor.specs.declared.refusal.Refusal.{Refusal}
+use Rattle.dsm_cursor.specs.Lexemes.{Lexeme}
+use Rattle.dsm_cursor.specs.Reading.{Read, ok, unexpected, too_high}
 
 -- the answer shows what is read, with the tokens that are left; a refused token is the first of them; want of memory is free
 abbrev pub Gives : {A B : Type 0} → (B → A) → Read A → Result B Refusal → List Lexeme → Type 0

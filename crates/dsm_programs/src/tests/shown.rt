@@ -1,5 +1,6 @@
 //! Trees as text: each node in parentheses, behind its name and its line where that isn't the first.
 
+use crate::tests::texts::named;
 use dsm_base::Text;
 use dsm_syntax::{
     AssignOp, Declarator, Expr, ForStart, Item, Name, Params, Part, Place, Sharing, Stmt, Variable,
@@ -7,7 +8,7 @@ use dsm_syntax::{
 use std::alloc::{AllocError, Global};
 
 fn show_text(alloc: Global, out: &mut String, text: &Text) -> Result<(), AllocError> {
-    out.push_str(String::from_utf8_lossy(alloc, text.as_slice())?.as_str())
+    out.push_str(named(alloc, text)?.as_str())
 }
 
 fn show_number(alloc: Global, out: &mut String, number: i64) -> Result<(), AllocError> {
@@ -61,7 +62,7 @@ fn assign_name(alloc: Global, op: AssignOp) -> Result<String, AllocError> {
 }
 
 #[cycle(show)]
-pub fn show_expression(alloc: Global, out: &mut String, value: &Expr) -> Result<(), AllocError> {
+fn show_expression(alloc: Global, out: &mut String, value: &Expr) -> Result<(), AllocError> {
     match value {
         Expr::Number(number) => return show_number(alloc, out, *number),
         Expr::Place(place) => return show_place(alloc, out, place),
