@@ -5,11 +5,11 @@ use Rattle.dsm_syntax.specs.declared.word.Word.{Word}
 use Rattle.dsm_syntax.specs.declared.tree.Name.{Name}
 use Rattle.dsm_syntax.specs.Tree.{Place, single, element, Expression, number, at, paren, call, unary, prefix, postfix, binary, choice, assign}
 use Rattle.dsm_parse.specs.declared.operator.Lead.{Lead}
-use Rattle.dsm_parse.specs.Lexemes.{Lexeme, named, numeral, quoted, word, sign, word_at, sign_at}
+use Rattle.dsm_cursor.specs.Lexemes.{Lexeme, named, numeral, quoted, word, sign, word_at, sign_at}
 use Rattle.dsm_parse.specs.Operators.{unary_sign, step_sign, binary_sign, assign_sign}
 use Rattle.dsm_parse.specs.Grammar.{spell_place, spell, Fits}
-use Rattle.dsm_parse.specs.Reading.{unexpected, too_high, look, tail, is_sign, is_word}
-use Rattle.dsm_parse.specs.Tokens.{is_name, is_string, plain_word, placed_word}
+use Rattle.dsm_cursor.specs.Reading.{unexpected, too_high, look, tail, is_sign, is_word}
+use Rattle.dsm_cursor.specs.Tokens.{is_name, is_string, plain_word, placed_word}
 use Rattle.dsm_parse.specs.Signs.{lead, is_lead, begins_expression}
 use Rattle.dsm_parse.specs.Expressions.{expression, place, none_fits}
 use Rattle.dsm_parse.proofs.Fronts.{of_sign, of_word}

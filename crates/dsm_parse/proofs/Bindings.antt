@@ -1,17 +1,15 @@
 -- Bindings.
-use Rattle.std.proofs.Common.{◌≡◌, ◌≤◌, ℕ, ℤ, pos, List, [], ◌∷◌, ◌++◌, Option, Some, None, refl, arith}
+use Rattle.std.proofs.Common.{ℕ, pos, List, ◌∷◌, refl, arith}
 use Rattle.dsm_syntax.specs.declared.sign.Sign.{Sign}
 use Rattle.dsm_syntax.specs.declared.word.Word.{Word}
-use Rattle.dsm_syntax.specs.declared.tree.Name.{Name}
 use Rattle.dsm_syntax.specs.Tree as t
 use Rattle.dsm_syntax.specs.Tree.{Item}
-use Rattle.dsm_parse.specs.Lexemes.{Lexeme, named, numeral, sign, word_at}
+use Rattle.dsm_cursor.specs.Lexemes.{Lexeme, named, numeral, sign, word_at}
 use Rattle.dsm_parse.specs.Grammar as g
 use Rattle.dsm_parse.specs.Grammar.{spell_size, spell_item, FitsItem}
-use Rattle.dsm_parse.specs.Reading.{ok}
 use Rattle.dsm_parse.specs.Items.{end_of_binding, bind, bind_each, bind_barrier}
 use Rattle.dsm_parse.proofs.Good.{Language, Free, Good, good_next, good_sign, good_end}
-use Rattle.dsm_parse.proofs.Singles.{Single, single_name, single_number, good_single, good_signed}
+use Rattle.dsm_parse.proofs.Singles.{single_name, single_number, good_single, good_signed}
 use Rattle.dsm_parse.proofs.Declarations.{ItemOf, good_size}
 
 good_ending : {L : Language Item} {d : ℕ} (item : Item) → L d item g.end_of_binding → (ts : List Lexeme) → Good L Free (λ m. end_of_binding item) d ts

@@ -5,10 +5,10 @@ use Rattle.std.proofs.lemmas.List.{append-nil}
 use Rattle.dsm_syntax.specs.declared.sign.Sign.{Sign}
 use Rattle.dsm_syntax.specs.Tree.{Statement, Statements}
 use Rattle.dsm_syntax.specs.Tree as t
-use Rattle.dsm_parse.specs.Lexemes.{Lexeme, sign}
+use Rattle.dsm_cursor.specs.Lexemes.{Lexeme, sign}
 use Rattle.dsm_parse.specs.Grammar.{spell_statement, spell_statements, FitsStatement, FitStatements}
 use Rattle.dsm_parse.specs.Heights.{height_statement, height_statements, highest}
-use Rattle.dsm_parse.specs.Reading.{Read, ok, unexpected, too_high, Reader, and_then, look, tail, ended_by, repeated}
+use Rattle.dsm_cursor.specs.Reading.{Read, ok, unexpected, too_high, Reader, and_then, look, tail, ended_by, repeated}
 use Rattle.dsm_parse.specs.Statements.{goes_on, in_order, statements, statement}
 use Rattle.dsm_parse.proofs.Fronts.{Looks, is_sign_look}
 use Rattle.dsm_parse.proofs.Good.{Language, Free, Spelled, Begins, BeginsPast, Good, good_unexpected, good_too_high, good_as, good_weaken, good_map, good_next, good_end}

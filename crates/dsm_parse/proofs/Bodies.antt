@@ -2,10 +2,10 @@
 use Rattle.std.proofs.Common.{◌≡◌, ◌≤◌, ◌+◌, ℕ, zero, suc, List, ◌∷◌, ◌++◌, refl, ap, arith}
 use Rattle.dsm_syntax.specs.declared.sign.Sign.{Sign}
 use Rattle.dsm_syntax.specs.Tree.{Statements}
-use Rattle.dsm_parse.specs.Lexemes.{Lexeme, sign}
+use Rattle.dsm_cursor.specs.Lexemes.{Lexeme, sign}
 use Rattle.dsm_parse.specs.Grammar.{spell_body, FitStatements}
 use Rattle.dsm_parse.specs.Heights.{height_statements}
-use Rattle.dsm_parse.specs.Reading.{ok}
+use Rattle.dsm_cursor.specs.Reading.{ok}
 use Rattle.dsm_parse.specs.Statements.{body}
 use Rattle.dsm_parse.proofs.Good.{Language, Free, Spelled, Good, good_weaken, good_up, good_sign}
 use Rattle.dsm_parse.proofs.Blocks.{statements_good}

@@ -6,10 +6,10 @@ use Rattle.dsm_syntax.specs.declared.word.Word.{Word}
 use Rattle.dsm_syntax.specs.Tree.{Expression, Statement}
 use Rattle.dsm_syntax.specs.Tree as t
 use Rattle.dsm_parse.specs.declared.kind.StatementKind.{StatementKind}
-use Rattle.dsm_parse.specs.Lexemes.{Lexeme, word, sign}
+use Rattle.dsm_cursor.specs.Lexemes.{Lexeme, word, sign}
 use Rattle.dsm_parse.specs.Grammar.{spell_test, spell_statement, Fits, FitsStatement, ends_open}
 use Rattle.dsm_parse.specs.Heights.{height, height_statement}
-use Rattle.dsm_parse.specs.Reading.{look, tail, is_word}
+use Rattle.dsm_cursor.specs.Reading.{look, tail, is_word}
 use Rattle.dsm_parse.specs.Statements.{deeper, Head, if_of, else_of, while_of, for_of, statement}
 use Rattle.dsm_parse.proofs.Fronts.{is_word_look}
 use Rattle.dsm_parse.proofs.Good.{Good, good_ok, good_weaken, good_map, good_next, good_if, good_behind_word}

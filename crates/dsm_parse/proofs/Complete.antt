@@ -8,11 +8,11 @@ use Rattle.dsm_syntax.specs.declared.tree.BinaryOp.{BinaryOp}
 use Rattle.dsm_syntax.specs.declared.tree.AssignOp.{AssignOp}
 use Rattle.dsm_syntax.specs.Tree.{Place, single, element, Expression, number, at, paren, call, unary, prefix, postfix, binary, choice, assign, Expressions, nil, cons}
 use Rattle.dsm_parse.specs.declared.operator.Infix.{Infix}
-use Rattle.dsm_parse.specs.Lexemes.{Lexeme, sign, sign_at}
+use Rattle.dsm_cursor.specs.Lexemes.{Lexeme, sign, sign_at}
 use Rattle.dsm_parse.specs.Operators.{unary_sign, step_sign, binary_sign, assign_sign, binary_level}
 use Rattle.dsm_parse.specs.Grammar.{spell_place, spell, spell_arguments, spell_more, spell_list, level, FitsPlace, Fits, FitArguments}
 use Rattle.dsm_parse.specs.Heights.{height_place, height, height_arguments}
-use Rattle.dsm_parse.specs.Reading.{ok, too_high, Reader, and_then, look, tail, is_sign, after_sign, ended_by, list_of}
+use Rattle.dsm_cursor.specs.Reading.{ok, too_high, Reader, and_then, look, tail, is_sign, after_sign, ended_by, list_of}
 use Rattle.dsm_parse.specs.Signs.{step_of, infix_of, infix_tightness, tightness_of, tightness, begins_expression}
 use Rattle.dsm_parse.specs.Expressions.{expressions, over, place_behind, place_at, stepped_by, stepped, arguments, operand_by, operand, operation, climb, at_least, below, expression, place}
 use Rattle.dsm_parse.proofs.Lists.{list_reads}

@@ -1,5 +1,5 @@
 -- Data, locks and barriers.
-use Rattle.std.proofs.Common.{◌≡◌, ◌≤◌, ℕ, ℤ, Bool, true, false, List, [], ◌∷◌, ◌++◌, Option, Some, None, refl, sym, ap, ◌∙◌, subst, arith, append_assoc}
+use Rattle.std.proofs.Common.{◌≡◌, ℕ, List, [], ◌∷◌, ◌++◌, Some, None, refl, ap, ◌∙◌, arith, append_assoc}
 use Rattle.dsm_syntax.specs.declared.sign.Sign.{Sign}
 use Rattle.dsm_syntax.specs.declared.word.Word.{Word}
 use Rattle.dsm_syntax.specs.declared.tree.Name.{Name}
@@ -7,16 +7,16 @@ use Rattle.dsm_syntax.specs.declared.tree.Declarator.{Declarator}
 use Rattle.dsm_syntax.specs.declared.tree.Sharing.{Sharing}
 use Rattle.dsm_syntax.specs.Tree as t
 use Rattle.dsm_syntax.specs.Tree.{Item}
-use Rattle.dsm_parse.specs.Lexemes.{Lexeme, named, word, sign}
+use Rattle.dsm_cursor.specs.Lexemes.{Lexeme, named, word, sign}
 use Rattle.dsm_parse.specs.Grammar.{spell_size, spell_declarator, spell_name, spell_list, spell_more, spell_item, Listed, HasSome, FitsItem}
 use Rattle.dsm_parse.specs.Heights.{height_item}
-use Rattle.dsm_parse.specs.Reading.{ok, and_then, tail, is_sign, ended_by, more_of, list_of}
-use Rattle.dsm_parse.specs.Tokens.{read_name, read_number}
+use Rattle.dsm_cursor.specs.Reading.{tail, is_sign}
+use Rattle.dsm_cursor.specs.Tokens.{read_name}
 use Rattle.dsm_parse.specs.Items.{size, declarator_of, declarator, locks, barriers, shared_data, private_data}
 use Rattle.dsm_parse.proofs.Fronts.{is_sign_look}
-use Rattle.dsm_parse.proofs.Good.{Language, Free, Spelled, Begins, Good, good_ok, good_weaken, good_map, good_then, good_next, good_if, good_word, good_behind_sign, good_end}
+use Rattle.dsm_parse.proofs.Good.{Language, Free, Spelled, Good, good_ok, good_weaken, good_map, good_then, good_next, good_if, good_word, good_behind_sign, good_end}
 use Rattle.dsm_parse.proofs.Singles.{single_name, single_number, good_single, good_alone}
-use Rattle.dsm_parse.proofs.Lists.{ListOf, good_list, good_more, list_reads, more_reads}
+use Rattle.dsm_parse.proofs.Lists.{good_list, good_more}
 
 -- what is no node and always fits
 abbrev pub Flat : {A : Type 0} → (A → List Lexeme) → Language A

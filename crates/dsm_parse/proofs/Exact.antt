@@ -1,17 +1,17 @@
 -- The reader of programs is exact.
-use Rattle.std.proofs.Common.{◌≡◌, ◌≤◌, ◌<◌, ◌+◌, max, ◌⊎◌, inl, inr, ℕ, suc, Bool, false, List, [], ◌∷◌, ◌++◌, length, take, drop, Option, Some, None, slice_get, refl, sym, ap, ◌∙◌, subst, arith, append-nil, length-append, take-append-drop, take_all, append_assoc, zero}
-use Rattle.std.proofs.Math.Seq.{take-append_seam, drop-append_seam}
+use Rattle.std.proofs.Common.{◌≡◌, ◌≤◌, ◌<◌, ◌+◌, max, inl, inr, ℕ, suc, false, List, [], ◌∷◌, ◌++◌, length, take, drop, Option, Some, slice_get, refl, sym, ap, ◌∙◌, subst, arith, append-nil, length-append, take-append-drop, take_all, append_assoc, zero}
+use Rattle.std.proofs.Math.Seq.{take-append_seam}
 use Rattle.std.proofs.lemmas.Bool.{cases_lt}
 use Rattle.std.proofs.lemmas.Option.{slice_get_past}
 use Rattle.dsm_syntax.specs.Tree.{Item}
-use Rattle.dsm_parse.specs.Lexemes.{Lexeme}
-use Rattle.dsm_parse.specs.Grammar.{spell_item, spell_program, FitsItem}
+use Rattle.dsm_cursor.specs.Lexemes.{Lexeme}
+use Rattle.dsm_parse.specs.Grammar.{spell_item, FitsItem}
 use Rattle.dsm_parse.specs.Heights.{height_item, height_program}
-use Rattle.dsm_parse.specs.Programs.{IsProgram, IsProgramOf}
+use Rattle.dsm_parse.specs.Programs.{IsProgramOf}
 use Rattle.dsm_parse.specs.Refusals.{GoesOn, IsBegun, IsUnexpected, IsTooHigh}
-use Rattle.dsm_parse.specs.Reading.{Read, ok, unexpected, too_high, look}
+use Rattle.dsm_cursor.specs.Reading.{Read, ok, unexpected, too_high, look}
 use Rattle.dsm_parse.specs.Items.{goes_on, items}
-use Rattle.dsm_parse.proofs.Good.{Begins, BeginsPast, Outcome, Good}
+use Rattle.dsm_parse.proofs.Good.{Begins, Outcome}
 use Rattle.dsm_parse.proofs.Repeats.{AllOf, Stopped}
 use Rattle.dsm_parse.proofs.Items.{good_items}
 use Rattle.dsm_parse.proofs.Spellings.{items_read}

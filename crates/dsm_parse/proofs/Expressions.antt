@@ -11,12 +11,12 @@ use Rattle.dsm_syntax.specs.declared.tree.AssignOp.{AssignOp}
 use Rattle.dsm_syntax.specs.Tree.{Place, single, element, Expression, number, at, paren, call, unary, prefix, postfix, binary, choice, assign, nil}
 use Rattle.dsm_parse.specs.declared.operator.Infix.{Infix}
 use Rattle.dsm_parse.specs.declared.operator.Lead.{Lead}
-use Rattle.dsm_parse.specs.Lexemes.{Lexeme, named, numeral, sign, sign_at}
+use Rattle.dsm_cursor.specs.Lexemes.{Lexeme, named, numeral, sign, sign_at}
 use Rattle.dsm_parse.specs.Operators.{unary_sign, step_sign, binary_sign, assign_sign, binary_level}
 use Rattle.dsm_parse.specs.Grammar.{spell_place, spell, spell_arguments, spell_more_arguments, spell_more, spell_list, Listed, level, FitsPlace, Fits, FitArguments}
 use Rattle.dsm_parse.specs.Heights.{height_place, height, height_arguments, highest}
-use Rattle.dsm_parse.specs.Reading.{Read, ok, unexpected, too_high, Reader, and_then, look, tail, is_sign, after_sign}
-use Rattle.dsm_parse.specs.Tokens.{is_name, read_name}
+use Rattle.dsm_cursor.specs.Reading.{Read, ok, unexpected, too_high, Reader, and_then, look, tail, is_sign, after_sign}
+use Rattle.dsm_cursor.specs.Tokens.{is_name, read_name}
 use Rattle.dsm_parse.specs.Signs.{lead, step_of, infix_of, infix_tightness, tightness_of, tightness}
 use Rattle.dsm_parse.specs.Expressions.{Lower, expressions, over, place_behind, place_at, stepped_by, stepped, arguments, named_behind, operand_by, operand, operation, climb, at_least, below, expression, place}
 use Rattle.dsm_parse.proofs.Fronts.{cons_of, is_sign_look, of_sign}

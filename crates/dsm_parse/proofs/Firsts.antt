@@ -6,10 +6,10 @@ use Rattle.dsm_syntax.specs.declared.tree.Name.{Name}
 use Rattle.dsm_syntax.specs.Tree.{single, Expression, number, start_nothing, Statement}
 use Rattle.dsm_syntax.specs.Tree as t
 use Rattle.dsm_parse.specs.declared.kind.StatementKind.{StatementKind}
-use Rattle.dsm_parse.specs.Lexemes.{Lexeme, named, numeral, quoted, word, sign, word_at}
+use Rattle.dsm_cursor.specs.Lexemes.{Lexeme, named, numeral, quoted, word, sign, word_at}
 use Rattle.dsm_parse.specs.Grammar.{spell, spell_statement, FitsStatement, ends_open}
 use Rattle.dsm_parse.specs.Heights.{height_statement}
-use Rattle.dsm_parse.specs.Reading.{unexpected, too_high, and_then, look, is_word, ended_by}
+use Rattle.dsm_cursor.specs.Reading.{unexpected, too_high, and_then, look, is_word, ended_by}
 use Rattle.dsm_parse.specs.Signs.{begins_expression}
 use Rattle.dsm_parse.specs.Statements.{kind, no_statement, statement_by, statement}
 use Rattle.dsm_parse.proofs.Good.{Language, Follow, Spelled}

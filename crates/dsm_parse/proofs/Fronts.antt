@@ -5,8 +5,8 @@ use Rattle.dsm_syntax.specs.contracts.sign.Sign as sign_type
 use Rattle.dsm_syntax.specs.contracts.word.Word as word_type
 use Rattle.dsm_syntax.specs.declared.sign.Sign.{Sign}
 use Rattle.dsm_syntax.specs.declared.word.Word.{Word}
-use Rattle.dsm_parse.specs.Lexemes.{Lexeme, word, sign}
-use Rattle.dsm_parse.specs.Reading.{look, tail, is_sign, is_word}
+use Rattle.dsm_cursor.specs.Lexemes.{Lexeme, word, sign}
+use Rattle.dsm_cursor.specs.Reading.{look, tail, is_sign, is_word}
 
 pub look_append : (pre r s : List Lexeme) → look r ≡ look s → look (pre ++ r) ≡ look (pre ++ s)
 look_append [] r s e = e

@@ -1,23 +1,21 @@
 -- Functions.
-use Rattle.std.proofs.Common.{◌≡◌, ◌≤◌, ◌+◌, ℕ, Bool, true, false, List, [], ◌∷◌, ◌++◌, Option, Some, None, refl, sym, ap, ◌∙◌, subst, arith}
+use Rattle.std.proofs.Common.{◌≤◌, ℕ, List, [], ◌∷◌, ◌++◌, refl, ap, arith}
 use Rattle.dsm_syntax.specs.declared.sign.Sign.{Sign}
 use Rattle.dsm_syntax.specs.declared.word.Word.{Word}
 use Rattle.dsm_syntax.specs.declared.tree.Name.{Name}
 use Rattle.dsm_syntax.specs.declared.tree.Returns.{Returns}
 use Rattle.dsm_syntax.specs.Tree as t
 use Rattle.dsm_syntax.specs.Tree.{Item, Params, Statements}
-use Rattle.dsm_parse.specs.Lexemes.{Lexeme, named, word, sign}
-use Rattle.dsm_parse.specs.Grammar.{spell_param, spell_params, spell_returns, spell_list, spell_item, spell_body, FitsItem, FitsParams, FitStatements}
-use Rattle.dsm_parse.specs.Heights.{height_statements}
-use Rattle.dsm_parse.specs.Reading.{ok, and_then, tail, is_sign, is_word, list_of}
-use Rattle.dsm_parse.specs.Tokens.{read_name}
+use Rattle.dsm_cursor.specs.Lexemes.{Lexeme, named, word, sign}
+use Rattle.dsm_parse.specs.Grammar.{spell_param, spell_params, spell_returns, FitsParams}
+use Rattle.dsm_cursor.specs.Reading.{is_sign, is_word}
 use Rattle.dsm_parse.specs.Statements.{body}
-use Rattle.dsm_parse.specs.Items.{param, params, function_of, private_data, int_item, void_item}
+use Rattle.dsm_parse.specs.Items.{param, params, function_of, int_item, void_item}
 use Rattle.dsm_parse.proofs.Fronts.{is_sign_look, is_word_look}
-use Rattle.dsm_parse.proofs.Good.{Language, Free, Spelled, Begins, Good, good_ok, good_weaken, good_map, good_next, good_if, good_sign, good_word, good_behind_word}
+use Rattle.dsm_parse.proofs.Good.{Language, Free, Spelled, Good, good_ok, good_weaken, good_map, good_next, good_if, good_sign, good_word, good_behind_word}
 use Rattle.dsm_parse.proofs.Singles.{single_name, good_single, good_alone}
 use Rattle.dsm_parse.proofs.Lists.{good_list}
-use Rattle.dsm_parse.proofs.Bodies.{BodyOf, good_body}
+use Rattle.dsm_parse.proofs.Bodies.{good_body}
 use Rattle.dsm_parse.proofs.Declarations.{Flat, ItemOf, has_some, good_private_data}
 
 pub good_param : (d : ℕ) (ts : List Lexeme) → Good (Flat spell_param) Free (λ m. param) d ts

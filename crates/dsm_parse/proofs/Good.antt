@@ -3,8 +3,8 @@
 use Rattle.std.proofs.Common.{◌≡◌, ◌≤◌, ◌<◌, length, length-append, ℕ, zero, suc, Bool, true, false, cond, List, [], ◌∷◌, ◌++◌, Option, Some, refl, sym, ap, ◌∙◌, subst, arith, append_assoc}
 use Rattle.dsm_syntax.specs.declared.sign.Sign.{Sign}
 use Rattle.dsm_syntax.specs.declared.word.Word.{Word}
-use Rattle.dsm_parse.specs.Lexemes.{Lexeme, sign, word}
-use Rattle.dsm_parse.specs.Reading.{Read, ok, unexpected, too_high, Reader, and_then, look, tail, is_sign, is_word, after_sign, ended_by}
+use Rattle.dsm_cursor.specs.Lexemes.{Lexeme, sign, word}
+use Rattle.dsm_cursor.specs.Reading.{Read, ok, unexpected, too_high, Reader, and_then, look, tail, is_sign, is_word, after_sign, ended_by}
 use Rattle.dsm_parse.proofs.Fronts.{look_append, Looks, is_sign_look, of_sign, is_that_sign, is_word_look, of_word, is_that_word}
 
 -- the values of at most a height, with their tokens

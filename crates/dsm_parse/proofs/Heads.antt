@@ -4,11 +4,11 @@ use Rattle.std.proofs.lemmas.List.{append-nil}
 use Rattle.dsm_syntax.specs.declared.sign.Sign.{Sign}
 use Rattle.dsm_syntax.specs.declared.word.Word.{Word}
 use Rattle.dsm_syntax.specs.Tree.{Expression, ForStart, start_nothing, start_variables, start_expression, Part, part_text, part_value}
-use Rattle.dsm_parse.specs.Lexemes.{Lexeme, quoted, sign}
+use Rattle.dsm_cursor.specs.Lexemes.{Lexeme, quoted, sign}
 use Rattle.dsm_parse.specs.Grammar.{spell, spell_option, spell_start, spell_test, spell_part, spell_list, Fits, FitsStart, FitsPart, Listed}
 use Rattle.dsm_parse.specs.Heights.{height, highest, height_option, height_start, height_part}
-use Rattle.dsm_parse.specs.Reading.{ok, Reader, and_then, look, is_sign, is_word, after_sign, ended_by, list_of}
-use Rattle.dsm_parse.specs.Tokens.{read_string, is_string}
+use Rattle.dsm_cursor.specs.Reading.{ok, Reader, and_then, look, is_sign, is_word, after_sign, ended_by, list_of}
+use Rattle.dsm_cursor.specs.Tokens.{read_string, is_string}
 use Rattle.dsm_parse.specs.Signs.{begins_expression}
 use Rattle.dsm_parse.specs.Expressions.{expression}
 use Rattle.dsm_parse.specs.Statements.{unless_sign, variables, part, test, argument, start, Head, head}

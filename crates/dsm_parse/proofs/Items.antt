@@ -1,23 +1,19 @@
 -- Items and whole programs.
-use Rattle.std.proofs.Common.{◌≡◌, ◌≤◌, ◌<◌, nat_eq, Err, ℕ, Bool, true, false, List, [], ◌∷◌, ◌++◌, length, length-append, flat_map, Option, Some, None, refl, sym, ap, ◌∙◌, subst, arith}
-use Rattle.std.specs.List.{AllByRecursion}
-use Rattle.dsm_syntax.specs.declared.sign.Sign.{Sign}
+use Rattle.std.proofs.Common.{◌≡◌, ◌≤◌, ◌<◌, nat_eq, Err, ℕ, true, false, List, [], ◌∷◌, ◌++◌, length, refl, sym, ap, ◌∙◌, subst, arith}
 use Rattle.dsm_syntax.specs.declared.word.Word.{Word}
-use Rattle.dsm_syntax.specs.declared.sign.Sign.TheVariants as signs
 use Rattle.dsm_syntax.specs.declared.word.Word.TheVariants as words
-use Rattle.dsm_syntax.specs.declared.tree.Returns.TheVariants as returns
 use Rattle.dsm_syntax.specs.declared.tree.Sharing.TheVariants as sharing
 use Rattle.dsm_syntax.specs.Tree as t
 use Rattle.dsm_syntax.specs.Tree.{Item}
-use Rattle.dsm_parse.specs.declared.refusal.Refusal.{Refusal}
-use Rattle.dsm_parse.specs.Gives.{Gives}
-use Rattle.dsm_parse.specs.Lexemes.{Lexeme, named, numeral, quoted, word, sign, word_at, sign_at}
-use Rattle.dsm_parse.specs.Grammar.{spell_item, spell_name, FitsItem}
-use Rattle.dsm_parse.specs.Heights.{height_item, highest}
-use Rattle.dsm_parse.specs.Reading.{Read, ok, unexpected, look, tail, gathered}
+use Rattle.dsm_cursor.specs.declared.refusal.Refusal.{Refusal}
+use Rattle.dsm_cursor.specs.Gives.{Gives}
+use Rattle.dsm_cursor.specs.Lexemes.{Lexeme, word, word_at}
+use Rattle.dsm_parse.specs.Grammar.{spell_item, FitsItem}
+use Rattle.dsm_parse.specs.Heights.{height_item}
+use Rattle.dsm_cursor.specs.Reading.{Read, ok, unexpected, look, tail, gathered}
 use Rattle.dsm_parse.specs.Items.{item, goes_on, items}
 use Rattle.dsm_parse.proofs.Fronts.{Looks, nil_of, cons_of}
-use Rattle.dsm_parse.proofs.Good.{Language, Free, Spelled, Begins, Good, good_as, good_after, good_unexpected, shorter}
+use Rattle.dsm_parse.proofs.Good.{Free, Begins, Good, good_as, good_after, good_unexpected, shorter}
 use Rattle.dsm_parse.proofs.Singles.{single_name}
 use Rattle.dsm_parse.proofs.Repeats.{Stopped, AllOf, good_repeated, gathers, gathers_none}
 use Rattle.dsm_parse.proofs.Declarations.{ItemOf, good_locks, good_barriers, good_shared_data}

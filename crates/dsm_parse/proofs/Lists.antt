@@ -2,12 +2,12 @@
 use Rattle.std.proofs.Common.{◌≡◌, ◌≤◌, ◌<◌, ℕ, Bool, true, false, cond, List, [], ◌∷◌, ◌++◌, length, flat_map, Option, Some, None, Err, IfSome, refl, sym, ap, ◌∙◌, subst, arith, append_assoc, append-nil}
 use Rattle.std.specs.List.{AllByRecursion}
 use Rattle.dsm_syntax.specs.declared.sign.Sign.{Sign}
-use Rattle.dsm_parse.specs.Lexemes.{Lexeme, sign}
+use Rattle.dsm_cursor.specs.Lexemes.{Lexeme, sign}
 use Rattle.dsm_parse.specs.Grammar.{spell_more, spell_list, spell_option, Listed}
 use Rattle.dsm_parse.specs.Heights.{highest, height_option}
-use Rattle.dsm_parse.specs.Reading.{Read, ok, unexpected, Reader, and_then, tail, is_sign, after_sign, gathered, more_of, list_of}
-use Rattle.dsm_parse.specs.declared.refusal.Refusal.{Refusal}
-use Rattle.dsm_parse.specs.Gives.{Gives}
+use Rattle.dsm_cursor.specs.Reading.{Read, ok, unexpected, Reader, and_then, tail, is_sign, after_sign, gathered, more_of, list_of}
+use Rattle.dsm_cursor.specs.declared.refusal.Refusal.{Refusal}
+use Rattle.dsm_cursor.specs.Gives.{Gives}
 use Rattle.dsm_parse.proofs.Fronts.{Looks, is_sign_look, of_sign}
 use Rattle.dsm_parse.proofs.Good.{Language, Follow, Free, Spelled, Good, good_ok, good_weaken, good_map, good_next, good_if, good_sign, no_longer}
 use Rattle.dsm_parse.proofs.Repeats.{Stopped, stops, good_repeated, gathers, gathers_none, all_reads, all_low}

@@ -1,17 +1,17 @@
 -- Tokens are those of a program or are refused, once and for good.
-use Rattle.std.proofs.Common.{◌≡◌, ◌≢◌, ◌≤◌, ◌<◌, ◌+◌, ◌⊎◌, inl, inr, max, ℕ, zero, suc, List, [], ◌∷◌, ◌++◌, length, take, slice_get, refl, sym, ap, ◌∙◌, subst, arith, add-one}
+use Rattle.std.proofs.Common.{◌≡◌, ◌≢◌, ◌<◌, ◌+◌, ◌⊎◌, inl, inr, max, ℕ, zero, suc, List, [], ◌∷◌, ◌++◌, length, take, slice_get, refl, sym, ap, ◌∙◌, arith, add-one}
 use Rattle.std.proofs.lemmas.List.{length-map}
 use Rattle.dsm_syntax.specs.declared.errors.ProgErr.{ProgErr}
 use Rattle.dsm_syntax.specs.declared.errors.ProgErr.TheVariants as err
 use Rattle.dsm_syntax.specs.declared.errors.Which.TheVariants as which
 use Rattle.dsm_syntax.specs.declared.token.Token.{Token}
 use Rattle.dsm_syntax.specs.Tree.{Item}
-use Rattle.dsm_parse.specs.Lexemes.{Lexeme, lexeme_of, lexemes}
+use Rattle.dsm_cursor.specs.Lexemes.{Lexeme, lexeme_of, lexemes}
 use Rattle.dsm_parse.specs.Grammar.{spell_program}
 use Rattle.dsm_parse.specs.Heights.{height_program}
 use Rattle.dsm_parse.specs.Programs.{IsProgram, IsProgramOf}
 use Rattle.dsm_parse.specs.Refusals.{GoesOn, IsBegun, IsUnexpected, IsTooHigh, IsStopped, line_at, IsRefused}
-use Rattle.dsm_parse.specs.Reading.{Read, ok, unexpected, too_high}
+use Rattle.dsm_cursor.specs.Reading.{Read, ok, unexpected, too_high}
 use Rattle.dsm_parse.specs.Items.{items}
 use Rattle.dsm_parse.proofs.Spellings.{items_read}
 use Rattle.dsm_parse.proofs.Exact.{IsExact, exact, not_unexpected, not_too_high, one_unexpected, one_too_high, one_reason}

@@ -5,11 +5,11 @@ use Rattle.dsm_syntax.specs.declared.word.Word.{Word}
 use Rattle.dsm_syntax.specs.declared.tree.Name.{Name}
 use Rattle.dsm_syntax.specs.Tree.{Place, Expression, Variable, Part, Statement, Statements}
 use Rattle.dsm_syntax.specs.Tree as t
-use Rattle.dsm_parse.specs.Lexemes.{Lexeme, word, sign, word_at}
+use Rattle.dsm_cursor.specs.Lexemes.{Lexeme, word, sign, word_at}
 use Rattle.dsm_parse.specs.Grammar.{spell, spell_option, spell_place, spell_variables, spell_part, spell_list, spell_test, spell_statement, spell_statements, Fits, FitsVariable, FitsPlace, FitsPart, FitsStatement, FitStatements, Listed, ends_open}
 use Rattle.dsm_parse.specs.Heights.{height, height_option, height_place, height_variable, height_part, height_statement, height_statements, highest}
-use Rattle.dsm_parse.specs.Reading.{ok, Reader, and_then, look, tail, is_sign, is_word, ended_by, repeated, list_of}
-use Rattle.dsm_parse.specs.Tokens.{read_name}
+use Rattle.dsm_cursor.specs.Reading.{ok, Reader, and_then, look, tail, is_sign, is_word, ended_by, repeated, list_of}
+use Rattle.dsm_cursor.specs.Tokens.{read_name}
 use Rattle.dsm_parse.specs.Expressions.{place}
 use Rattle.dsm_parse.specs.Statements.{part, test, argument, Head, lock, goes_on, in_order, statements, if_of, else_of, while_of, for_of, statement_by, statement, body}
 use Rattle.dsm_parse.proofs.Repeats.{stops, turns}

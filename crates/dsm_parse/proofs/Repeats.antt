@@ -1,11 +1,11 @@
 -- Readers of several values, one after the other.
 use Rattle.std.proofs.Common.{◌≡◌, ◌≤◌, ◌<◌, ℕ, zero, suc, Bool, true, false, List, [], ◌∷◌, ◌++◌, length, flat_map, Option, Err, refl, sym, ap, ◌∙◌, subst, arith, append_assoc, append-nil, length-append}
 use Rattle.std.specs.List.{AllByRecursion}
-use Rattle.dsm_parse.specs.declared.refusal.Refusal.{Refusal}
-use Rattle.dsm_parse.specs.Gives.{Gives}
-use Rattle.dsm_parse.specs.Lexemes.{Lexeme}
+use Rattle.dsm_cursor.specs.declared.refusal.Refusal.{Refusal}
+use Rattle.dsm_cursor.specs.Gives.{Gives}
+use Rattle.dsm_cursor.specs.Lexemes.{Lexeme}
 use Rattle.dsm_parse.specs.Heights.{highest}
-use Rattle.dsm_parse.specs.Reading.{Read, ok, unexpected, too_high, Reader, and_then, look, repeated, gathered}
+use Rattle.dsm_cursor.specs.Reading.{Read, ok, unexpected, too_high, Reader, and_then, look, repeated, gathered}
 use Rattle.dsm_parse.proofs.Fronts.{look_append, Looks}
 use Rattle.dsm_parse.proofs.Good.{Language, Follow, Spelled, Begins, BeginsPast, Takes, Outcome, Good}
 

@@ -7,10 +7,10 @@ use Rattle.dsm_syntax.specs.Tree as t
 use Rattle.dsm_syntax.specs.Views.{view_statement, view_statements}
 use Rattle.dsm_syntax.proofs.Shown.{view_block}
 use Rattle.dsm_parse.specs.declared.kind.StatementKind.{StatementKind}
-use Rattle.dsm_parse.specs.Lexemes.{Lexeme}
+use Rattle.dsm_cursor.specs.Lexemes.{Lexeme}
 use Rattle.dsm_parse.specs.Grammar.{spell_statement, FitsStatement}
 use Rattle.dsm_parse.specs.Heights.{height_statement}
-use Rattle.dsm_parse.specs.Reading.{Read, ok, unexpected, too_high, and_then, look, tail, is_sign, ended_by, gathered}
+use Rattle.dsm_cursor.specs.Reading.{Read, ok, unexpected, too_high, and_then, look, tail, is_sign, ended_by, gathered}
 use Rattle.dsm_parse.specs.Statements.{kind, goes_on, in_order, statements, statement_by, statement}
 use Rattle.dsm_parse.proofs.Good.{shorter}
 use Rattle.dsm_parse.proofs.Repeats.{all_of, gathers, gathered_all}

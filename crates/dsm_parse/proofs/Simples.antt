@@ -7,11 +7,11 @@ use Rattle.dsm_syntax.specs.declared.word.Word.{Word}
 use Rattle.dsm_syntax.specs.Tree.{Place, Statement}
 use Rattle.dsm_syntax.specs.Tree as t
 use Rattle.dsm_parse.specs.declared.kind.StatementKind.{StatementKind}
-use Rattle.dsm_parse.specs.Lexemes.{Lexeme, word, sign, word_at}
+use Rattle.dsm_cursor.specs.Lexemes.{Lexeme, word, sign, word_at}
 use Rattle.dsm_parse.specs.Grammar.{spell_name, spell_place, spell_statement, FitsPlace, FitsStatement, ends_open}
 use Rattle.dsm_parse.specs.Heights.{height_place, height_statement}
-use Rattle.dsm_parse.specs.Reading.{ok, too_high, Reader, and_then, look, tail, ended_by, list_of}
-use Rattle.dsm_parse.specs.Tokens.{read_name}
+use Rattle.dsm_cursor.specs.Reading.{ok, too_high, Reader, and_then, look, tail, ended_by, list_of}
+use Rattle.dsm_cursor.specs.Tokens.{read_name}
 use Rattle.dsm_parse.specs.Expressions.{place}
 use Rattle.dsm_parse.specs.Statements.{deeper, variable, argument, lock, barrier, print, declaration, expression_statement, return_at}
 use Rattle.dsm_parse.proofs.Fronts.{cons_of}

@@ -2,9 +2,9 @@
 use Rattle.std.proofs.Common.{◌≡◌, ◌⊎◌, inl, inr, Bool, true, false, cond, ℕ, ℤ, pos, List, [], ◌∷◌, refl, sym, ap, ◌∙◌, subst}
 use Rattle.dsm_syntax.specs.declared.sign.Sign.{Sign}
 use Rattle.dsm_syntax.specs.declared.tree.Name.{Name}
-use Rattle.dsm_parse.specs.Lexemes.{Lexeme, named, numeral, quoted, sign}
-use Rattle.dsm_parse.specs.Reading.{Read, ok, unexpected, too_high, Reader, and_then, look, tail, is_sign, after_sign}
-use Rattle.dsm_parse.specs.Tokens.{read_name, read_number, read_string}
+use Rattle.dsm_cursor.specs.Lexemes.{Lexeme, named, numeral, quoted, sign}
+use Rattle.dsm_cursor.specs.Reading.{Read, ok, unexpected, too_high, Reader, and_then, look, tail, is_sign, after_sign}
+use Rattle.dsm_cursor.specs.Tokens.{read_name, read_number, read_string}
 use Rattle.dsm_parse.proofs.Fronts.{nil_of, cons_of}
 use Rattle.dsm_parse.proofs.Good.{Language, Follow, Free, Begins, Good, good_as, good_after, good_ok, good_sign, good_unexpected, begun_of}
 

@@ -1,18 +1,15 @@
 -- A tree is sound where its tokens are.
-use Rattle.std.proofs.Common.{◌≡◌, Bool, true, false, ◌&&◌, if◌then◌else◌, ℕ, ℤ, List, [], ◌∷◌, ◌++◌, map, Option, Some, None, IsTrue, refl, sym, ap, ◌∙◌, subst}
+use Rattle.std.proofs.Common.{◌≡◌, Bool, true, false, ◌&&◌, if◌then◌else◌, ℕ, ℤ, List, [], ◌∷◌, ◌++◌, Option, Some, None, refl, ◌∙◌}
 use Rattle.dsm_syntax.specs.declared.sign.Sign.{Sign}
-use Rattle.dsm_syntax.specs.declared.word.Word.{Word}
 use Rattle.dsm_syntax.specs.declared.token.Token.{Token}
 use Rattle.dsm_syntax.specs.declared.token.TokenKind.{TokenKind}
 use Rattle.dsm_syntax.specs.declared.token.TokenKind.TheVariants as kinds
 use Rattle.dsm_syntax.specs.declared.tree.Declarator.{Declarator}
-use Rattle.dsm_syntax.specs.declared.tree.Sharing.{Sharing}
 use Rattle.dsm_syntax.specs.declared.tree.Sharing.TheVariants as sharing
-use Rattle.dsm_syntax.specs.Sound as o
 use Rattle.dsm_syntax.specs.Sound.{all_are, is_sound_number, is_sound_string, is_sound_kind, are_sound, is_sound_option, is_sound_place, is_sound, are_sound_arguments, is_sound_variable, is_sound_part, is_sound_start, is_sound_statement, are_sound_statements, is_sound_declarator, is_sound_item, is_sound_program}
 use Rattle.dsm_syntax.specs.Tree as t
-use Rattle.dsm_parse.specs.Lexemes.{Lexeme, named, numeral, quoted, word, sign, word_at, sign_at, is_placed_word, is_placed_sign, lexeme_at, lexeme_of, lexemes}
-use Rattle.dsm_parse.specs.Grammar.{spell_returns, spell_initial, spell_params, spell_list, spell_more, spell_option, spell_place, spell, spell_arguments, spell_more_arguments, spell_variable, spell_part, spell_start, spell_statement, spell_statements, spell_size, spell_declarator, spell_name, spell_item, spell_program}
+use Rattle.dsm_cursor.specs.Lexemes.{Lexeme, numeral, quoted, word, sign, word_at, sign_at, is_placed_word, is_placed_sign, lexeme_at, lexeme_of, lexemes}
+use Rattle.dsm_parse.specs.Grammar.{spell_returns, spell_initial, spell_params, spell_list, spell_more, spell_option, spell_place, spell, spell_arguments, spell_more_arguments, spell_variable, spell_part, spell_start, spell_statement, spell_statements, spell_size, spell_declarator, spell_item, spell_program}
 
 -- no number below 0, and no string that may not be
 abbrev pub is_sound_lexeme : Lexeme → Bool

@@ -1,8 +1,7 @@
 -- Each item is read from its spelling.
-use Rattle.std.proofs.Common.{◌≡◌, ◌≤◌, ◌+◌, ℕ, ℤ, Bool, true, false, List, [], ◌∷◌, ◌++◌, length, flat_map, Option, Some, None, refl, sym, ap, ◌∙◌, subst, arith, append_assoc, append-nil}
+use Rattle.std.proofs.Common.{◌≡◌, ◌≤◌, ◌+◌, ℕ, ℤ, true, false, List, [], ◌∷◌, ◌++◌, length, flat_map, Option, Some, None, refl, sym, ap, ◌∙◌, arith, append_assoc, append-nil}
 use Rattle.std.specs.List.{AllByRecursion}
 use Rattle.dsm_syntax.specs.declared.sign.Sign.{Sign}
-use Rattle.dsm_syntax.specs.declared.word.Word.{Word}
 use Rattle.dsm_syntax.specs.declared.tree.Name.{Name}
 use Rattle.dsm_syntax.specs.declared.tree.Declarator.{Declarator}
 use Rattle.dsm_syntax.specs.declared.tree.Returns.{Returns}
@@ -11,13 +10,12 @@ use Rattle.dsm_syntax.specs.declared.tree.Sharing.{Sharing}
 use Rattle.dsm_syntax.specs.declared.tree.Sharing.TheVariants as sharing
 use Rattle.dsm_syntax.specs.Tree as t
 use Rattle.dsm_syntax.specs.Tree.{Item, Params, Statements}
-use Rattle.dsm_parse.specs.Lexemes.{Lexeme, named, numeral, word, sign, word_at}
+use Rattle.dsm_cursor.specs.Lexemes.{Lexeme, named, numeral, sign}
 use Rattle.dsm_parse.specs.Grammar.{end_of_binding, spell_size, spell_declarator, spell_name, spell_param, spell_params, spell_returns, spell_list, spell_more, spell_item, spell_body, Listed, HasSome, FitsItem, FitsParams, FitStatements}
 use Rattle.dsm_parse.specs.Heights.{height_item, height_statements, highest}
-use Rattle.dsm_parse.specs.Reading.{Read, ok, and_then, is_sign, ended_by, after_sign, more_of, list_of}
-use Rattle.dsm_parse.specs.Tokens.{read_name}
-use Rattle.dsm_parse.specs.Statements.{body}
-use Rattle.dsm_parse.specs.Items.{size, declarator_of, declarator, locks, barriers, shared_data, private_data, param, params, function_of, int_item, item, goes_on, items}
+use Rattle.dsm_cursor.specs.Reading.{ok, and_then, is_sign, more_of, list_of}
+use Rattle.dsm_cursor.specs.Tokens.{read_name}
+use Rattle.dsm_parse.specs.Items.{size, declarator_of, declarator, param, params, function_of, int_item, item, goes_on, items}
 use Rattle.dsm_parse.proofs.Repeats.{all_reads, all_low}
 use Rattle.dsm_parse.proofs.Lists.{list_reads, more_reads}
 use Rattle.dsm_parse.proofs.Bodies.{body_reads}

@@ -1,8 +1,8 @@
 -- Statements are read as their grammar has them.
 use Rattle.std.proofs.Common.{◌≤◌, ℕ, zero, suc, List, refl, ap, arith}
 use Rattle.dsm_parse.specs.declared.kind.StatementKind.{StatementKind}
-use Rattle.dsm_parse.specs.Lexemes.{Lexeme}
-use Rattle.dsm_parse.specs.Reading.{look}
+use Rattle.dsm_cursor.specs.Lexemes.{Lexeme}
+use Rattle.dsm_cursor.specs.Reading.{look}
 use Rattle.dsm_parse.specs.Statements.{kind, statement_by, statement}
 use Rattle.dsm_parse.proofs.Good.{Good, good_as, good_up}
 use Rattle.dsm_parse.proofs.Firsts.{StatementOf, NoElse, Kinded, kinded}

@@ -9,7 +9,7 @@ use Rattle.dsm_syntax.specs.declared.tree.Name.{Name}
 use Rattle.dsm_syntax.specs.Tree.{Place, Expression, at}
 use Rattle.dsm_parse.specs.declared.operator.Infix.{Infix}
 use Rattle.dsm_parse.specs.declared.operator.Lead.{Lead}
-use Rattle.dsm_parse.specs.Lexemes.{Lexeme, named, numeral, sign, sign_at}
+use Rattle.dsm_cursor.specs.Lexemes.{Lexeme, named, numeral, sign, sign_at}
 use Rattle.dsm_parse.specs.Operators.{unary_sign, step_sign, binary_sign, assign_sign, binary_level}
 use Rattle.dsm_parse.specs.Signs.{step_op, lead_sign, lead, infix_op, placed, step_of, infix_of, assignment_tightness, tightness_of, tightness}
 

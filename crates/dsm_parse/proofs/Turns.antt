@@ -5,13 +5,13 @@ use Rattle.dsm_syntax.specs.declared.tree.Expr.{Expr}
 use Rattle.dsm_syntax.specs.Tree.{Expression, cons}
 use Rattle.dsm_syntax.specs.Views.{view, views}
 use Rattle.dsm_parse.specs.declared.operator.Infix.{Infix}
-use Rattle.dsm_parse.specs.declared.refusal.Refusal.{Refusal}
-use Rattle.dsm_parse.specs.Lexemes.{Lexeme}
+use Rattle.dsm_cursor.specs.declared.refusal.Refusal.{Refusal}
+use Rattle.dsm_cursor.specs.Lexemes.{Lexeme}
 use Rattle.dsm_parse.specs.Heights.{height, height_arguments}
-use Rattle.dsm_parse.specs.Reading.{ok, too_high, and_then, look, tail}
+use Rattle.dsm_cursor.specs.Reading.{ok, too_high, and_then, look, tail}
 use Rattle.dsm_parse.specs.Signs.{infix_of, infix_tightness, tightness_of}
 use Rattle.dsm_parse.specs.Expressions.{expressions, place_at, operation, climb, at_least, below}
-use Rattle.dsm_parse.specs.Gives.{Gives}
+use Rattle.dsm_cursor.specs.Gives.{Gives}
 use Rattle.dsm_parse.proofs.Repeats.{gives_none}
 use Rattle.dsm_parse.proofs.Expressions.{climb_stops, climb_turns}
 

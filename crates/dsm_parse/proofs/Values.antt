@@ -4,10 +4,10 @@ use Rattle.std.proofs.lemmas.List.{append-nil}
 use Rattle.dsm_syntax.specs.declared.sign.Sign.{Sign}
 use Rattle.dsm_syntax.specs.Tree.{Expression}
 use Rattle.dsm_parse.specs.declared.operator.Lead.{Lead}
-use Rattle.dsm_parse.specs.Lexemes.{Lexeme}
+use Rattle.dsm_cursor.specs.Lexemes.{Lexeme}
 use Rattle.dsm_parse.specs.Grammar.{spell, Fits}
 use Rattle.dsm_parse.specs.Heights.{height}
-use Rattle.dsm_parse.specs.Reading.{unexpected, Reader, and_then, look, is_sign}
+use Rattle.dsm_cursor.specs.Reading.{unexpected, Reader, and_then, look, is_sign}
 use Rattle.dsm_parse.specs.Signs.{lead, is_lead, begins_expression}
 use Rattle.dsm_parse.specs.Expressions.{below, expression, operand_by, climb}
 use Rattle.dsm_parse.specs.Statements.{unless_sign}

@@ -4,10 +4,10 @@ use Rattle.std.proofs.lemmas.Bool.{lt-ltb}
 use Rattle.dsm_syntax.specs.declared.sign.Sign.{Sign}
 use Rattle.dsm_syntax.specs.declared.word.Word.{Word}
 use Rattle.dsm_syntax.specs.Tree.{Initial, Variable}
-use Rattle.dsm_parse.specs.Lexemes.{Lexeme, named, word, sign_at}
+use Rattle.dsm_cursor.specs.Lexemes.{Lexeme, named, word, sign_at}
 use Rattle.dsm_parse.specs.Grammar.{spell_option, spell_initial, spell_variable, spell_variables, Fits, FitsVariable, Listed}
 use Rattle.dsm_parse.specs.Heights.{height, highest, height_option, height_variable}
-use Rattle.dsm_parse.specs.Reading.{ok, unexpected, too_high, Reader, and_then, look, tail, is_sign, is_word, list_of}
+use Rattle.dsm_cursor.specs.Reading.{ok, unexpected, too_high, Reader, and_then, look, tail, is_sign, is_word, list_of}
 use Rattle.dsm_parse.specs.Signs.{infix_of}
 use Rattle.dsm_parse.specs.Expressions.{expression}
 use Rattle.dsm_parse.specs.Statements.{deeper, assign_line, initial_at, initial, variable, variables}

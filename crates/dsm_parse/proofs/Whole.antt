@@ -1,5 +1,5 @@
 -- What a reading tells of a program's tokens.
-use Rattle.std.proofs.Common.{◌≡◌, ◌≢◌, ◌≤◌, ◌<◌, ◌+◌, ◌-◌, ◌⊎◌, inl, inr, ℕ, zero, suc, min, List, [], ◌∷◌, length, get_or, Err, refl, sym, ap, ◌∙◌, subst, arith}
+use Rattle.std.proofs.Common.{◌≡◌, ◌≢◌, ◌≤◌, ◌<◌, ◌-◌, ◌⊎◌, inl, inr, ℕ, zero, suc, min, List, [], ◌∷◌, length, get_or, Err, refl, sym, ap, ◌∙◌, subst, arith}
 use Rattle.std.proofs.lemmas.List.{length-map}
 use Rattle.std.proofs.lemmas.Bool.{cases_lt}
 use Rattle.dsm_syntax.specs.declared.errors.ProgErr.{ProgErr}
@@ -7,12 +7,12 @@ use Rattle.dsm_syntax.specs.declared.errors.ProgErr.TheVariants as err
 use Rattle.dsm_syntax.specs.declared.errors.Which.TheVariants as which
 use Rattle.dsm_syntax.specs.declared.token.Token.{Token}
 use Rattle.dsm_syntax.specs.Tree.{Item}
-use Rattle.dsm_parse.specs.declared.refusal.Refusal.{Refusal}
-use Rattle.dsm_parse.specs.Gives.{Gives}
-use Rattle.dsm_parse.specs.Lexemes.{Lexeme, lexeme_of, lexemes}
+use Rattle.dsm_cursor.specs.declared.refusal.Refusal.{Refusal}
+use Rattle.dsm_cursor.specs.Gives.{Gives}
+use Rattle.dsm_cursor.specs.Lexemes.{Lexeme, lexeme_of, lexemes}
 use Rattle.dsm_parse.specs.Programs.{IsProgramOf}
-use Rattle.dsm_parse.specs.Refusals.{IsUnexpected, IsTooHigh, line_from, line_at, IsRefused}
-use Rattle.dsm_parse.specs.Reading.{Read, ok, unexpected, too_high}
+use Rattle.dsm_parse.specs.Refusals.{line_from, line_at, IsRefused}
+use Rattle.dsm_cursor.specs.Reading.{Read, ok, unexpected, too_high}
 use Rattle.dsm_parse.specs.Items.{items}
 use Rattle.dsm_parse.proofs.Exact.{IsExact, exact, not_unexpected, not_too_high, one_unexpected, one_reason}
 

@@ -8,8 +8,8 @@ use Rattle.dsm_parse.specs.declared.operator.Infix.{Infix}
 use Rattle.dsm_parse.specs.declared.operator.Lead.{Lead}
 use Rattle.dsm_parse.specs.Operators.{binary_level}
 use Rattle.dsm_parse.specs.Heights.{height, height_place}
-use Rattle.dsm_parse.specs.Reading.{ok, unexpected, too_high, Reader, and_then, look, tail, is_sign, after_sign, ended_by, list_of}
-use Rattle.dsm_parse.specs.Tokens.{is_name, read_name}
+use Rattle.dsm_cursor.specs.Reading.{ok, unexpected, too_high, Reader, and_then, look, tail, is_sign, after_sign, ended_by, list_of}
+use Rattle.dsm_cursor.specs.Tokens.{is_name, read_name}
 use Rattle.dsm_parse.specs.Signs.{lead, begins_expression, step_of, infix_of, tightness}
 
 -- the readers of what is a level lower: an expression that binds at least so tightly, and a place

@@ -12,7 +12,7 @@ use Rattle.dsm_syntax.specs.declared.tree.Bind.{Bind}
 use Rattle.dsm_syntax.specs.declared.tree.BindEach.{BindEach}
 use Rattle.dsm_syntax.specs.declared.tree.BindBarrier.{BindBarrier}
 use Rattle.dsm_syntax.specs.Tree.{Place, single, element, Expression, number, at, paren, call, unary, prefix, postfix, binary, choice, assign, Expressions, nil, cons, Initial, Variable, Part, part_text, part_value, ForStart, start_nothing, start_variables, start_expression, Statement, block, empty, variables, expression, when, either, while, for, break, continue, return, acquire, acquire_shared, release, barrier, print, Statements, none, then, Params, no_params, void_params, named_params, Item, cells, locks, barriers, bind, bind_each, bind_barrier, function}
-use Rattle.dsm_parse.specs.Lexemes.{Lexeme, named, numeral, quoted, word, sign, word_at, sign_at}
+use Rattle.dsm_cursor.specs.Lexemes.{Lexeme, named, numeral, quoted, word, sign, word_at, sign_at}
 use Rattle.dsm_parse.specs.Operators.{unary_sign, step_sign, binary_sign, assign_sign, binary_level}
 
 -- Spelling.

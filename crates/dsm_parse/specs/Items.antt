@@ -8,9 +8,9 @@ use Rattle.dsm_syntax.specs.declared.tree.Returns.{Returns}
 use Rattle.dsm_syntax.specs.declared.tree.Sharing.{Sharing}
 use Rattle.dsm_syntax.specs.Tree as t
 use Rattle.dsm_syntax.specs.Tree.{Item, Params}
-use Rattle.dsm_parse.specs.Lexemes.{Lexeme}
-use Rattle.dsm_parse.specs.Reading.{Reader, ok, unexpected, and_then, look, tail, is_sign, is_word, after_sign, ended_by, repeated, more_of, list_of}
-use Rattle.dsm_parse.specs.Tokens.{read_name, read_number, plain_word, placed_word}
+use Rattle.dsm_cursor.specs.Lexemes.{Lexeme}
+use Rattle.dsm_cursor.specs.Reading.{Reader, ok, unexpected, and_then, look, tail, is_sign, is_word, after_sign, ended_by, repeated, more_of, list_of}
+use Rattle.dsm_cursor.specs.Tokens.{read_name, read_number, plain_word, placed_word}
 use Rattle.dsm_parse.specs.Statements.{body}
 
 -- a number in brackets, where a bracket comes

@@ -1,12 +1,8 @@
-pub mod Lexemes
 pub mod Operators
 pub mod Grammar
 pub mod Heights
 pub mod Programs
 pub mod Refusals
-pub mod Reading
-pub mod Tokens
-pub mod Gives
 pub mod Signs
 pub mod Expressions
 pub mod Statements

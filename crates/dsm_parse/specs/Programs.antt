@@ -2,7 +2,7 @@
 use Rattle.std.specs.Prelude.{◌≡◌, ◌≤◌, List}
 use Rattle.std.specs.List.{AllByRecursion}
 use Rattle.dsm_syntax.specs.Tree.{Item}
-use Rattle.dsm_parse.specs.Lexemes.{Lexeme}
+use Rattle.dsm_cursor.specs.Lexemes.{Lexeme}
 use Rattle.dsm_parse.specs.Grammar.{FitsItem, spell_program}
 use Rattle.dsm_parse.specs.Heights.{height_program}
 

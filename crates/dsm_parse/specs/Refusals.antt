@@ -5,7 +5,7 @@ use Rattle.dsm_syntax.specs.declared.errors.ProgErr.TheVariants as err
 use Rattle.dsm_syntax.specs.declared.errors.Which.TheVariants as which
 use Rattle.dsm_syntax.specs.declared.token.Token.{Token}
 use Rattle.dsm_syntax.specs.Tree.{Item}
-use Rattle.dsm_parse.specs.Lexemes.{Lexeme, lexemes}
+use Rattle.dsm_cursor.specs.Lexemes.{Lexeme, lexemes}
 use Rattle.dsm_parse.specs.Grammar.{spell_program}
 use Rattle.dsm_parse.specs.Heights.{height_program}
 use Rattle.dsm_parse.specs.Programs.{IsProgram}

@@ -8,7 +8,7 @@ use Rattle.dsm_syntax.specs.declared.tree.AssignOp.{AssignOp}
 use Rattle.dsm_syntax.specs.Tree.{Expression, at}
 use Rattle.dsm_parse.specs.declared.operator.Infix.{Infix}
 use Rattle.dsm_parse.specs.declared.operator.Lead.{Lead}
-use Rattle.dsm_parse.specs.Lexemes.{Lexeme, named, numeral, sign, sign_at}
+use Rattle.dsm_cursor.specs.Lexemes.{Lexeme, named, numeral, sign, sign_at}
 use Rattle.dsm_parse.specs.Operators.{binary_level}
 
 abbrev pub step_op : Sign → Option StepOp

@@ -9,9 +9,9 @@ use Rattle.dsm_syntax.specs.Tree as t
 use Rattle.dsm_syntax.specs.Views.{view, view_start, option_view}
 use Rattle.dsm_parse.specs.declared.kind.StatementKind.{StatementKind}
 use Rattle.dsm_parse.specs.declared.head.ForHead.{ForHead}
-use Rattle.dsm_parse.specs.Lexemes.{Lexeme, word, sign, word_at, sign_at}
-use Rattle.dsm_parse.specs.Reading.{Reader, ok, unexpected, too_high, and_then, look, tail, is_sign, is_word, after_sign, ended_by, repeated, list_of}
-use Rattle.dsm_parse.specs.Tokens.{read_name, read_string, is_string}
+use Rattle.dsm_cursor.specs.Lexemes.{Lexeme, word, sign, word_at, sign_at}
+use Rattle.dsm_cursor.specs.Reading.{Reader, ok, unexpected, too_high, and_then, look, tail, is_sign, is_word, after_sign, ended_by, repeated, list_of}
+use Rattle.dsm_cursor.specs.Tokens.{read_name, read_string, is_string}
 use Rattle.dsm_parse.specs.Expressions.{expression, place}
 
 -- behind the next token, which begins what has something below it

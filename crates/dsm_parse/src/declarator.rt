@@ -2,13 +2,12 @@
 
 ghost use Rattle.std.specs.Prelude.{[], ◌∷◌};
 ghost use Rattle.dsm_syntax.specs.Views.{view_item};
-ghost use Rattle.dsm_parse.specs.Gives.{Gives};
-ghost use Rattle.dsm_parse.specs.Reading.{gathered, more_of, list_of};
-ghost use Rattle.dsm_parse.specs.Tokens.{read_name};
+ghost use Rattle.dsm_cursor.specs.Gives.{Gives};
+ghost use Rattle.dsm_cursor.specs.Reading.{gathered, more_of, list_of};
+ghost use Rattle.dsm_cursor.specs.Tokens.{read_name};
 ghost use Rattle.dsm_parse.specs.Items as r;
 
-use crate::cursor::Cursor;
-use crate::refusal::Refusal;
+use dsm_cursor::{Cursor, Refusal};
 use dsm_syntax::{Declarator, Item, Name, Sharing, Sign, Word};
 use std::alloc::Global;
 

@@ -4,15 +4,14 @@ ghost use Rattle.std.specs.Prelude.{◌≡◌, ◌+◌, ◌≤◌, ◌<◌, ◌^
 ghost use Rattle.dsm_syntax.specs.Tree as tree;
 ghost use Rattle.dsm_syntax.specs.Views.{view, view_place};
 ghost use Rattle.dsm_parse.specs.Heights.{height, height_place, height_arguments};
-ghost use Rattle.dsm_parse.specs.Reading.{tail, list_of};
-ghost use Rattle.dsm_parse.specs.Gives.{Gives};
+ghost use Rattle.dsm_cursor.specs.Reading.{tail, list_of};
+ghost use Rattle.dsm_cursor.specs.Gives.{Gives};
 ghost use Rattle.dsm_parse.specs.Expressions as reader;
 ghost use Rattle.dsm_parse.specs.Expressions.{below, expressions};
 
-use crate::cursor::Cursor;
 use crate::measured::Measured;
 use crate::operator::{Infix, Lead, level, next_step};
-use crate::refusal::Refusal;
+use dsm_cursor::{Cursor, Refusal};
 use dsm_syntax::{Expr, Name, Place, Sign};
 use std::alloc::Global;
 

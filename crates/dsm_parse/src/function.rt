@@ -2,13 +2,12 @@
 
 ghost use Rattle.std.specs.Prelude.{◌<◌, ◌^◌};
 ghost use Rattle.dsm_syntax.specs.Views.{view_item, view_params};
-ghost use Rattle.dsm_parse.specs.Gives.{Gives};
-ghost use Rattle.dsm_parse.specs.Reading.{list_of};
+ghost use Rattle.dsm_cursor.specs.Gives.{Gives};
+ghost use Rattle.dsm_cursor.specs.Reading.{list_of};
 ghost use Rattle.dsm_parse.specs.Items as r;
 
-use crate::cursor::Cursor;
-use crate::refusal::Refusal;
 use crate::statement::body;
+use dsm_cursor::{Cursor, Refusal};
 use dsm_syntax::{Function, Item, Name, Params, Returns, Sign, Word};
 use std::alloc::Global;
 

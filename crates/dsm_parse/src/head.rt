@@ -2,15 +2,14 @@
 
 ghost use Rattle.std.specs.Prelude.{◌≡◌, ◌<◌, ◌^◌, false};
 ghost use Rattle.dsm_syntax.specs.Views.{view, view_start, option_view};
-ghost use Rattle.dsm_parse.specs.Lexemes.{is_placed_sign};
-ghost use Rattle.dsm_parse.specs.Gives.{Gives};
+ghost use Rattle.dsm_cursor.specs.Lexemes.{is_placed_sign};
+ghost use Rattle.dsm_cursor.specs.Gives.{Gives};
 ghost use Rattle.dsm_parse.specs.Expressions.{expression};
 ghost use Rattle.dsm_parse.specs.Statements as reader;
 
-use crate::cursor::Cursor;
 use crate::expression::expression;
-use crate::refusal::Refusal;
 use crate::variable::variables;
+use dsm_cursor::{Cursor, Refusal};
 use dsm_syntax::{Expr, ForStart, Sign, Word};
 use std::alloc::Global;
 

@@ -1,10 +1,10 @@
 //! What a statement is, by its first token.
 
 ghost use Rattle.std.specs.Prelude.{◌≡◌};
-ghost use Rattle.dsm_parse.specs.Reading.{look};
+ghost use Rattle.dsm_cursor.specs.Reading.{look};
 ghost use Rattle.dsm_parse.specs.Statements as reader;
 
-use crate::cursor::Cursor;
+use dsm_cursor::Cursor;
 use dsm_syntax::{Sign, Word};
 
 /// What a statement is. The lines are those of words.

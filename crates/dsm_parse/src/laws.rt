@@ -1,10 +1,10 @@
 //! Laws of the grammar of trees. Each is proved of all tokens, and calls nothing.
 
-ghost use Rattle.std.specs.Prelude.{◌≡◌, ◌≢◌, ◌⊎◌, ◌<◌, ◌≤◌, ◌+◌, ◌++◌, ℕ, List, length, take};
+ghost use Rattle.std.specs.Prelude.{◌≡◌, ◌≢◌, ◌⊎◌, ◌<◌, ◌+◌, ◌++◌, ℕ, List, length, take};
 ghost use Rattle.dsm_syntax.specs.declared.errors.ProgErr.{ProgErr};
 ghost use Rattle.dsm_syntax.specs.declared.token.Token.{Token};
 ghost use Rattle.dsm_syntax.specs.Tree.{Item};
-ghost use Rattle.dsm_parse.specs.Lexemes.{Lexeme, lexemes};
+ghost use Rattle.dsm_cursor.specs.Lexemes.{Lexeme, lexemes};
 ghost use Rattle.dsm_parse.specs.Grammar.{spell_program};
 ghost use Rattle.dsm_parse.specs.Programs.{IsProgram, IsProgramOf};
 ghost use Rattle.dsm_parse.specs.Refusals.{IsUnexpected, IsTooHigh, IsStopped, IsRefused};

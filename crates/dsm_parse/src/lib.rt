@@ -2,7 +2,6 @@
 #![tactic(auto)]
 
 mod binding;
-mod cursor;
 mod declarator;
 mod expression;
 mod function;
@@ -14,13 +13,9 @@ mod measured;
 mod operator;
 mod print;
 mod program;
-mod refusal;
 mod simple;
 mod statement;
 mod variable;
 
 pub use laws::{one_tree, refused_for_good, tree_or_refusal};
 pub use program::parse;
-
-#[cfg(test)]
-mod tests;

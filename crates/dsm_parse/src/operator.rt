@@ -1,14 +1,13 @@
 //! What a token stands for, where an expression may begin and behind an operand.
 
-ghost use Rattle.std.specs.Prelude.{◌≡◌, ◌≤◌, ◌<◌, Some, OnOk, OnErr};
+ghost use Rattle.std.specs.Prelude.{◌≡◌, ◌≤◌};
 ghost use Rattle.dsm_syntax.specs.Views.{view};
 ghost use Rattle.dsm_parse.specs.Operators.{binary_level};
-ghost use Rattle.dsm_parse.specs.Reading.{look, tail};
+ghost use Rattle.dsm_cursor.specs.Reading.{look};
 ghost use Rattle.dsm_parse.specs.Signs.{step_op, lead_sign, lead, is_lead, infix_op, step_of, infix_of, infix_tightness};
 
-use crate::cursor::Cursor;
-use crate::refusal::Refusal;
-use dsm_syntax::{AssignOp, BinaryOp, Expr, Sign, StepOp, TokenKind, UnaryOp};
+use dsm_cursor::Cursor;
+use dsm_syntax::{AssignOp, BinaryOp, Expr, Sign, StepOp, UnaryOp};
 
 /// What stands between operands.
 #[derive(Clone, Copy, Debug, PartialEq, Eq)]

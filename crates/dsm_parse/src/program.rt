@@ -1,17 +1,16 @@
 //! Whole programs.
 
-ghost use Rattle.std.specs.Prelude.{◌≡◌, ◌≢◌, ◌≤◌, ◌⊎◌, List, IfOk, IfErr, MatchResult};
+ghost use Rattle.std.specs.Prelude.{◌≡◌, ◌≢◌, ◌⊎◌, List, IfOk, IfErr, MatchResult};
 ghost use Rattle.dsm_syntax.specs.declared.errors.ProgErr.{ProgErr};
 ghost use Rattle.dsm_syntax.specs.Tree.{Item};
 ghost use Rattle.dsm_syntax.specs.Programs.{view_tree};
 ghost use Rattle.dsm_syntax.specs.Views.{view_items};
-ghost use Rattle.dsm_parse.specs.Lexemes.{lexemes};
+ghost use Rattle.dsm_cursor.specs.Lexemes.{lexemes};
 ghost use Rattle.dsm_parse.specs.Programs.{IsProgramOf};
 ghost use Rattle.dsm_parse.specs.Refusals.{line_at, IsRefused};
 
-use crate::cursor::Cursor;
 use crate::item::items;
-use crate::refusal::Refusal;
+use dsm_cursor::{Cursor, Refusal};
 use dsm_syntax::{ProgErr, Token, Tokens, Tree, Which};
 use std::alloc::Global;
 

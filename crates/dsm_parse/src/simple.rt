@@ -2,16 +2,15 @@
 
 ghost use Rattle.std.specs.Prelude.{◌<◌, ◌^◌};
 ghost use Rattle.dsm_syntax.specs.Views.{view_place, view_statement};
-ghost use Rattle.dsm_parse.specs.Gives.{Gives};
-ghost use Rattle.dsm_parse.specs.Reading.{ok};
+ghost use Rattle.dsm_cursor.specs.Gives.{Gives};
+ghost use Rattle.dsm_cursor.specs.Reading.{ok};
 ghost use Rattle.dsm_parse.specs.Statements as reader;
 
-use crate::cursor::Cursor;
 use crate::expression::{expression, place};
 use crate::head::unless_sign;
 use crate::print::parts;
-use crate::refusal::Refusal;
 use crate::variable::variables;
+use dsm_cursor::{Cursor, Refusal};
 use dsm_syntax::{Name, Place, Sign, Stmt};
 use std::alloc::Global;
 

@@ -2,13 +2,12 @@
 
 ghost use Rattle.std.specs.Prelude.{◌≡◌, ◌≤◌, ◌<◌, ◌^◌, map};
 ghost use Rattle.dsm_syntax.specs.Views.{option_view, view_initial, view_variable};
-ghost use Rattle.dsm_parse.specs.Gives.{Gives};
-ghost use Rattle.dsm_parse.specs.Reading.{look, list_of};
+ghost use Rattle.dsm_cursor.specs.Gives.{Gives};
+ghost use Rattle.dsm_cursor.specs.Reading.{look, list_of};
 ghost use Rattle.dsm_parse.specs.Statements as reader;
 
-use crate::cursor::Cursor;
 use crate::expression::expression;
-use crate::refusal::Refusal;
+use dsm_cursor::{Cursor, Refusal};
 use dsm_syntax::{Initial, Sign, Variable, Word};
 use std::alloc::Global;
 

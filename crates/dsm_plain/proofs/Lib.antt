@@ -1,4 +1,4 @@
-pub mod Values
-pub mod Tops
-pub mod Moves
-pub mod Finishing
+pub mod Families
+pub mod Outcomes
+pub mod Extents
+pub mod States

@@ -1,5 +1,8 @@
 //! Tables of runs: what the files hold, what is written, and the status.
 
+mod evaluation;
+mod whole;
+
 use dsm_base::{CallKind, MemFiles, MemSink, NamedFile, NamedFiles, Text};
 use dsm_top::{Report, run_tool};
 use sqlite_items::Items;

@@ -1,5 +1,5 @@
 use Rattle.std.proofs.Common.{[], ◌∷◌, ◌≡◌, length}
-use Rattle.dsm_parse.specs.Reading.{gathered, more_of}
+use Rattle.dsm_cursor.specs.Reading.{gathered, more_of}
 use Rattle.dsm_parse.specs.Items.{declarator}
 use Rattle.dsm_parse.proofs.declarator.declarators_behind.Given as goal
 

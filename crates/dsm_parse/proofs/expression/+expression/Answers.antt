@@ -5,9 +5,9 @@ use Rattle.dsm_syntax.specs.declared.sign.Sign.{Sign}
 use Rattle.dsm_syntax.specs.declared.tree.Expr.{Expr}
 use Rattle.dsm_parse.specs.declared.measured.Measured.{Measured}
 use Rattle.dsm_syntax.specs.Views.{view, view_place}
-use Rattle.dsm_parse.specs.Gives.{Gives}
+use Rattle.dsm_cursor.specs.Gives.{Gives}
 use Rattle.dsm_parse.specs.Heights.{height, height_arguments}
-use Rattle.dsm_parse.specs.Reading.{and_then, look, tail, is_sign, gathered, more_of}
+use Rattle.dsm_cursor.specs.Reading.{and_then, look, tail, is_sign, gathered, more_of}
 use Rattle.dsm_parse.specs.Signs.{infix_of, infix_tightness}
 use Rattle.dsm_parse.specs.Expressions.{below, climb, operation, place_behind, expression, expressions}
 use Rattle.dsm_parse.proofs.Lists.{more_gathers, more_falls}

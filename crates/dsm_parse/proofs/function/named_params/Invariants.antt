@@ -1,5 +1,5 @@
 use Rattle.std.proofs.Common.{◌≡◌, length}
-use Rattle.dsm_parse.specs.Reading.{gathered, more_of, list_of}
+use Rattle.dsm_cursor.specs.Reading.{gathered, more_of, list_of}
 use Rattle.dsm_parse.specs.Items.{param}
 use Rattle.dsm_parse.proofs.function.named_params.Given as goal
 

@@ -1,4 +1,4 @@
-use Rattle.std.proofs.Common.{◌≡◌, ◌≤◌, ◌==◌, Bool, false, List, [], ◌∷◌, length, sym, ◌∙◌, arith}
+use Rattle.std.proofs.Common.{◌≡◌, ◌≤◌, ◌==◌, false, List, [], ◌∷◌, length, sym, ◌∙◌, arith}
 use Rattle.dsm_syntax.specs.declared.token.Token.{Token}
 use Rattle.dsm_parse.proofs.Whole.{line_at_min}
 use Rattle.dsm_parse.proofs.program.line_at.Goals as goal

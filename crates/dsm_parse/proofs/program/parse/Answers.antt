@@ -2,7 +2,7 @@ use Rattle.std.proofs.Common.{◌≡◌, true, sym, ◌∙◌, subst}
 use Rattle.std.proofs.lemmas.Result.{err_from_is_err_and}
 use Rattle.dsm_syntax.specs.Views.{view_items}
 use Rattle.dsm_syntax.specs.Sound.{are_sound}
-use Rattle.dsm_parse.specs.Lexemes.{lexemes}
+use Rattle.dsm_cursor.specs.Lexemes.{lexemes}
 use Rattle.dsm_parse.specs.Programs.{IsProgramOf}
 use Rattle.dsm_parse.specs.Refusals.{IsRefused}
 use Rattle.dsm_parse.proofs.Exact.{one_program}

@@ -1,4 +1,4 @@
-use Rattle.std.proofs.Common.{◌-◌, ◌+◌, List, length, Vec, Global, sym, ap, ◌∙◌, arith}
+use Rattle.std.proofs.Common.{◌-◌, ◌+◌, List, length, Vec, Global, ap, ◌∙◌, arith}
 use Rattle.dsm_syntax.specs.declared.tree.Item.{Item}
 use Rattle.dsm_syntax.specs.Tree as t
 use Rattle.dsm_syntax.specs.Views.{view_items}

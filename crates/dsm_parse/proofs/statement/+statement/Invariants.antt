@@ -1,6 +1,6 @@
 use Rattle.std.proofs.Common.{◌≡◌, map, length, ◌*◌, ◌+◌}
 use Rattle.dsm_syntax.specs.Views.{view_statement}
-use Rattle.dsm_parse.specs.Reading.{gathered}
+use Rattle.dsm_cursor.specs.Reading.{gathered}
 use Rattle.dsm_parse.specs.Statements as reader
 use Rattle.dsm_parse.proofs.Repeats.{all_of}
 use Rattle.dsm_parse.proofs.statement.+statement.Given as goal

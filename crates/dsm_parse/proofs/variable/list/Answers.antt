@@ -2,7 +2,7 @@ use Rattle.std.proofs.Common.{arith, ◌≡◌, true, map, [], ◌∷◌, sym, a
 use Rattle.std.proofs.lemmas.List.{map-append}
 use Rattle.dsm_syntax.specs.declared.sign.Sign.{Sign}
 use Rattle.dsm_syntax.specs.Views.{view_variable}
-use Rattle.dsm_parse.specs.Reading.{tail, is_sign}
+use Rattle.dsm_cursor.specs.Reading.{tail, is_sign}
 use Rattle.dsm_parse.specs.Statements as reader
 use Rattle.dsm_parse.proofs.Lists.{more_turn, more_falls}
 use Rattle.dsm_parse.proofs.Variables.{variable_good}

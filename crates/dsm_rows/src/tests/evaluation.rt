@@ -1,0 +1,279 @@
+//! Tables of evaluation: what expressions come to, in which order, and where they fault.
+
+use crate::tests::{named, words};
+use dsm_base::{MemFiles, MemSink, NamedFiles};
+use dsm_top::run_tool;
+use sqlite_items::Items;
+use std::alloc::Global;
+use std::test::Fail;
+
+/// What is written where processor 0 of two makes its turns alone, over one memory.
+fn written(alloc: Global, program: &str) -> Result<MemSink, Fail> {
+    let mut files: NamedFiles = Items::new(alloc);
+    files.push(named(alloc, "prog", program.as_bytes())?)?;
+    files.push(named(alloc, "picks", b"procs 2\npick 0 2000\n")?)?;
+    let mut files = MemFiles::new(alloc, files);
+    let mut sink = MemSink::new(alloc, 4096);
+    let words = words(alloc, "plain prog picks")?;
+    run_tool(alloc, words.as_slice(), &mut files, &mut sink);
+    Ok(sink)
+}
+
+#[test]
+fn numbers(rt: HostRuntime) -> Result<(), Fail> {
+    let alloc = rt.alloc();
+    let table = [
+        ("2 + 3", "5"),
+        ("low + big", "-1"),
+        ("big + 1", "fault overflow line 2"),
+        ("low + -1", "fault overflow line 2"),
+        ("2 - 3", "-1"),
+        ("low - 0", "-9223372036854775808"),
+        ("low - 1", "fault overflow line 2"),
+        ("0 - low", "fault overflow line 2"),
+        ("6 * -7", "-42"),
+        ("4294967296 * -2147483648", "-9223372036854775808"),
+        ("4294967296 * 2147483648", "fault overflow line 2"),
+        ("low * -1", "fault overflow line 2"),
+        ("7 / 2", "3"),
+        ("-7 / 2", "-3"),
+        ("7 / -2", "-3"),
+        ("-7 / -2", "3"),
+        ("low / 1", "-9223372036854775808"),
+        ("low / -1", "fault overflow line 2"),
+        ("low / 0", "fault divzero line 2"),
+        ("7 % 2", "1"),
+        ("-7 % 2", "-1"),
+        ("7 % -2", "1"),
+        ("-7 % -2", "-1"),
+        ("big % -1", "0"),
+        ("low % big", "-1"),
+        ("low % -1", "fault overflow line 2"),
+        ("0 % 0", "fault divzero line 2"),
+        ("-5", "-5"),
+        ("- -5", "5"),
+        ("-low", "fault overflow line 2"),
+        ("+low", "-9223372036854775808"),
+    ];
+    for (expression, outcome) in table {
+        let program = format!(in alloc; "int big; int low; int main(int me, int n) {{ big = 9223372036854775807; low = -big - 1; print(\n{expression}); }}")?;
+        let wanted = format!(in alloc; "P0: {outcome}\n")?;
+        assert_eq!(rt; written(alloc, program.as_str())?.bytes(), wanted.as_bytes(), "{expression}");
+    }
+    Ok(())
+}
+
+#[test]
+fn shifts_and_bits(rt: HostRuntime) -> Result<(), Fail> {
+    let alloc = rt.alloc();
+    let table = [
+        ("5 << 0", "5"),
+        ("1 << 62", "4611686018427387904"),
+        ("1 << 63", "fault overflow line 2"),
+        ("-1 << 63", "-9223372036854775808"),
+        ("0 << 63", "0"),
+        ("1 << 64", "fault shift line 2"),
+        ("1 << -1", "fault shift line 2"),
+        ("big << 64", "fault shift line 2"),
+        ("9 >> 1", "4"),
+        ("-9 >> 1", "-5"),
+        ("-1 >> 63", "-1"),
+        ("big >> 63", "0"),
+        ("low >> 0", "-9223372036854775808"),
+        ("low >> 64", "fault shift line 2"),
+        ("1 >> -1", "fault shift line 2"),
+        ("12 & 10", "8"),
+        ("-1 & 7", "7"),
+        ("low & -1", "-9223372036854775808"),
+        ("12 | 3", "15"),
+        ("low | 1", "-9223372036854775807"),
+        ("12 ^ 10", "6"),
+        ("-1 ^ big", "-9223372036854775808"),
+        ("~0", "-1"),
+        ("~low", "9223372036854775807"),
+    ];
+    for (expression, outcome) in table {
+        let program = format!(in alloc; "int big; int low; int main(int me, int n) {{ big = 9223372036854775807; low = -big - 1; print(\n{expression}); }}")?;
+        let wanted = format!(in alloc; "P0: {outcome}\n")?;
+        assert_eq!(rt; written(alloc, program.as_str())?.bytes(), wanted.as_bytes(), "{expression}");
+    }
+    Ok(())
+}
+
+#[test]
+fn conditions(rt: HostRuntime) -> Result<(), Fail> {
+    let alloc = rt.alloc();
+    let table = [
+        ("low < big", "1"),
+        ("1 < 1", "0"),
+        ("1 <= 1", "1"),
+        ("big <= low", "0"),
+        ("big > low", "1"),
+        ("1 > 1", "0"),
+        ("1 >= 1", "1"),
+        ("low >= big", "0"),
+        ("low == -big - 1", "1"),
+        ("3 == 4", "0"),
+        ("3 != 4", "1"),
+        ("low != low", "0"),
+        ("!0", "1"),
+        ("!low", "0"),
+        ("2 && 3", "1"),
+        ("2 && 0", "0"),
+        ("0 && 1 / 0", "0"),
+        ("1 && 1 / 0", "fault divzero line 2"),
+        ("0 || 7", "1"),
+        ("0 || 0", "0"),
+        ("5 || 1 / 0", "1"),
+        ("0 || 1 / 0", "fault divzero line 2"),
+        ("low ? 2 : 1 / 0", "2"),
+        ("0 ? 1 / 0 : 3", "3"),
+    ];
+    for (expression, outcome) in table {
+        let program = format!(in alloc; "int big; int low; int main(int me, int n) {{ big = 9223372036854775807; low = -big - 1; print(\n{expression}); }}")?;
+        let wanted = format!(in alloc; "P0: {outcome}\n")?;
+        assert_eq!(rt; written(alloc, program.as_str())?.bytes(), wanted.as_bytes(), "{expression}");
+    }
+    Ok(())
+}
+
+#[test]
+fn assignments(rt: HostRuntime) -> Result<(), Fail> {
+    let alloc = rt.alloc();
+    let table = [
+        ("x = 3", "3 3"),
+        ("x += 3", "13 13"),
+        ("x -= 3", "7 7"),
+        ("x *= 3", "30 30"),
+        ("x /= 3", "3 3"),
+        ("x %= 3", "1 1"),
+        ("x <<= 3", "80 80"),
+        ("x >>= 1", "5 5"),
+        ("x &= 3", "2 2"),
+        ("x |= 3", "11 11"),
+        ("x ^= 3", "9 9"),
+        ("x++", "10 11"),
+        ("++x", "11 11"),
+        ("x--", "10 9"),
+        ("--x", "9 9"),
+        ("p = x = 4", "4 4"),
+        ("x += x++", "20 20"),
+        ("x + x++", "20 11"),
+        ("x++ + x", "21 11"),
+        ("q[x - 9] = 5", "5 10"),
+        ("q[1]++", "0 10"),
+        ("--q[0]", "-1 10"),
+        ("q[x++ - 10] += x", "11 11"),
+        ("x /= 0", "fault divzero line 2"),
+        ("x <<= 64", "fault shift line 2"),
+        ("x += 9223372036854775807", "fault overflow line 2"),
+        ("q[2]", "fault index line 2"),
+        ("q[-1]", "fault index line 2"),
+        ("q[2] = 1 / 0", "fault index line 2"),
+        ("q[2] += 1 / 0", "fault index line 2"),
+        ("q[0] = 1 / 0", "fault divzero line 2"),
+        ("q[1 / 0]", "fault divzero line 2"),
+    ];
+    for (expression, outcome) in table {
+        let program = format!(in alloc; "int p; int q[2]; int main(int me, int n) {{ int x = 10; print(\n{expression}, \" \", x); }}")?;
+        let wanted = format!(in alloc; "P0: {outcome}\n")?;
+        assert_eq!(rt; written(alloc, program.as_str())?.bytes(), wanted.as_bytes(), "{expression}");
+    }
+    Ok(())
+}
+
+/// Functions that note in which order they are called.
+const NOTES: &str =
+    "int noted; int q[9];\nint d(int digit) { noted = noted * 10 + digit; return digit; }\nint h(int a, int b, int c) { return a + b + c; }\n";
+
+#[test]
+fn order(rt: HostRuntime) -> Result<(), Fail> {
+    let alloc = rt.alloc();
+    let table = [
+        ("d(1) + d(2) * d(3)", "7 123"),
+        ("d(1) << d(2) < d(3)", "0 123"),
+        ("h(d(1), d(2), d(3))", "6 123"),
+        ("q[d(1)] = d(2)", "2 12"),
+        ("q[d(1)] += d(2)", "2 12"),
+        ("q[d(1)] + q[d(2)]", "0 12"),
+        ("d(1) && d(2)", "1 12"),
+        ("d(1) || d(2)", "1 1"),
+        ("d(0) || d(2)", "1 2"),
+        ("d(1) ? d(2) : d(3)", "2 12"),
+        ("d(0) ? d(2) : d(3)", "3 3"),
+        ("noted + d(5) + noted", "10 5"),
+    ];
+    for (expression, outcome) in table {
+        let program = format!(in alloc; "{NOTES}int main(int me, int n) {{ print({expression}, \" \", noted); }}")?;
+        let wanted = format!(in alloc; "P0: {outcome}\n")?;
+        assert_eq!(rt; written(alloc, program.as_str())?.bytes(), wanted.as_bytes(), "{expression}");
+    }
+    let table = [
+        ("x + (x = 5) + x", "10 5"),
+        ("a[x] + (x = 1) + a[x]", "1 1"),
+        ("x++ + x++", "1 2"),
+        ("a[x++] = x", "1 1"),
+        ("x += x = 4", "4 4"),
+    ];
+    for (expression, outcome) in table {
+        let program = format!(in alloc; "shared int x; shared int a[2]; lock_t L; bind(L, x, 0, 1); lock_t M[2]; bindeach(M, a, 1);\nint main(int me, int n) {{ acquire(L); acquire(M[0]); acquire(M[1]); print({expression}, \" \", x); }}")?;
+        let wanted = format!(in alloc; "P0: {outcome}\n")?;
+        assert_eq!(rt; written(alloc, program.as_str())?.bytes(), wanted.as_bytes(), "{expression}");
+    }
+    Ok(())
+}
+
+#[test]
+fn lines_of_faults(rt: HostRuntime) -> Result<(), Fail> {
+    let alloc = rt.alloc();
+    let names = "shared int x; lock_t L; lock_t M[2]; bind(L, x, 0, 1); int q[2]; int f(int k) {\nreturn k ?\nf\n(k - 1) : 0; }\n";
+    let table = [
+        ("print(1\n/\n0);", "fault divzero line 6"),
+        ("int y;\ny\n+=\n9223372036854775807 +\n1;", "fault overflow line 8"),
+        ("int y = 1;\ny\n+=\n9223372036854775807;", "fault overflow line 7"),
+        ("int y = 9223372036854775807;\ny\n++;", "fault overflow line 7"),
+        ("int y = 9223372036854775807;\n++\ny;", "fault overflow line 6"),
+        ("int y = -9223372036854775807 - 1;\ny = 1 +\n-\ny;", "fault overflow line 7"),
+        ("int y = 1;\ny\n<<=\n64;", "fault shift line 7"),
+        ("print(1 +\nq\n[2]);", "fault index line 6"),
+        ("acquire(\nM\n[2]);", "fault index line 6"),
+        ("release(\nM\n[-1]);", "fault index line 6"),
+        ("print(\nx\n);", "fault unbound line 6"),
+        ("\nx\n=\n1;", "fault unbound line 6"),
+        ("acquire_shared(L); print(x); \nx\n= 1;", "0\nP0: fault unbound line 6"),
+        ("acquire(L); acquire(\nL);", "fault held line 6"),
+        ("acquire_shared(L); acquire_shared(\nL);", "fault held line 6"),
+        ("release(\nL\n);", "fault notheld line 6"),
+        ("print(f(254)); print(f(255));", "0\nP0: fault depth line 3"),
+    ];
+    for (body, outcome) in table {
+        let program = format!(in alloc; "{names}int main(int me, int n) {{ {body} }}")?;
+        let wanted = format!(in alloc; "P0: {outcome}\n")?;
+        assert_eq!(rt; written(alloc, program.as_str())?.bytes(), wanted.as_bytes(), "{body}");
+    }
+    let program = "int f(int k) { return k ? f(k - 1) : f(1 /\n0); }\nint main(int me, int n) { f(254); }";
+    assert_eq!(rt; written(alloc, program)?.bytes(), b"P0: fault divzero line 1\n");
+    Ok(())
+}
+
+#[test]
+fn statements(rt: HostRuntime) -> Result<(), Fail> {
+    let alloc = rt.alloc();
+    let table = [
+        ("for (int i = 0; i < 3; i++) { int y; y++; print(i, y); }", "P0: 01\nP0: 11\nP0: 21\n"),
+        ("for (int i = 0; i < 2; i++) { int y = y + 1; print(y); }", "P0: 1\nP0: 2\n"),
+        ("int i = 5; while (i) { i--; if (i == 3) continue; if (i == 1) break; print(i); }", "P0: 4\nP0: 2\n"),
+        ("int i; for (; ; i++) { if (i == 1) continue; if (i > 2) break; print(i); }", "P0: 0\nP0: 2\n"),
+        ("if (0) print(1); else if (2) print(3); else print(4);", "P0: 3\n"),
+        ("if (0) print(1);", ""),
+        ("print(nothing(7), early(1), early(0));", "P0: 012\n"),
+        ("print(\"a\", -1, \"\", 2, \"b\");", "P0: a-12b\n"),
+        ("return 7; print(1);", ""),
+        ("print(me, n);", "P0: 02\n"),
+    ];
+    for (body, wanted) in table {
+        let program = format!(in alloc; "int nothing(int k) {{ k = 1; }} int early(int k) {{ if (k) return 1; return 2; }} int main(int me, int n) {{ {body} }}")?;
+        assert_eq!(rt; written(alloc, program.as_str())?.bytes(), wanted.as_bytes(), "{body}");
+    }
+    Ok(())
+}
