@@ -2,12 +2,19 @@
 
 use crate::tests::read::refusal;
 use crate::tests::texts::repeated;
+use std::alloc::Global;
 use std::test::Fail;
 
 const TOO_HIGH: &str = "Limit { which: Nesting, count: 65 }";
 
 /// The end of a text of one line.
 const UNEXPECTED: &str = "Unexpected { line: 1 }";
+
+/// What a program is refused for that has one function with such a body.
+fn body_refusal(alloc: Global, head: &str, inner: &str, end: &str) -> Result<String, Fail> {
+    let text = format!(in alloc; "int f() {{{head}{inner}{end}}}")?;
+    refusal(alloc, text.as_str())
+}
 
 #[test]
 fn functions_may_be_64_nodes_high(rt: HostRuntime) -> Result<(), Fail> {
@@ -40,15 +47,12 @@ fn functions_may_be_64_nodes_high(rt: HostRuntime) -> Result<(), Fail> {
     for (head, opening, middle, closing, end, most) in table {
         let before = repeated(alloc, opening, most)?;
         let behind = repeated(alloc, closing, most)?;
-        let text = format!(in alloc; "int f() {{{head}{before}{middle}{behind}{end}}}")?;
-        assert_eq!(rt;
-            refusal(alloc, text.as_str())?.as_str(),
-            "accepted",
-            "{text}"
-        );
-        let inner = format!(in alloc; "{opening}{middle}{closing}")?;
-        let text = format!(in alloc; "int f() {{{head}{before}{inner}{behind}{end}}}")?;
-        assert_eq!(rt; refusal(alloc, text.as_str())?.as_str(), TOO_HIGH, "{text}");
+        let inner = format!(in alloc; "{before}{middle}{behind}")?;
+        let found = body_refusal(alloc, head, inner.as_str(), end)?;
+        assert_eq!(rt; found.as_str(), "accepted", "{inner}");
+        let inner = format!(in alloc; "{opening}{inner}{closing}")?;
+        let found = body_refusal(alloc, head, inner.as_str(), end)?;
+        assert_eq!(rt; found.as_str(), TOO_HIGH, "{inner}");
     }
     Ok(())
 }
