@@ -2,3 +2,6 @@ pub mod Families
 pub mod Outcomes
 pub mod Extents
 pub mod States
+pub mod Lists
+pub mod Turns
+pub mod Waits

@@ -11,7 +11,7 @@ ghost use Rattle.dsm_plain.specs.Machine.{machine_of, semantics_of, want_at, fir
 ghost use Rattle.dsm_plain.specs.Waiting.{IsPick};
 
 use crate::standing::{Numbers, Standing};
-use crate::start::{start_standings, start_threads};
+use crate::start::{start_memory, start_standings, start_threads, start_versions};
 use crate::waiting::{Picked, blockers, late};
 use dsm_base::{Bar, Lock, MemFault, Mode, Proc, Setup, Want};
 use dsm_check::Checked;
@@ -45,8 +45,8 @@ impl<'a> Plain<'a> {
         let setup = checked.setup(alloc, procs)?;
         let threads = start_threads(alloc, checked, procs)?;
         let standings = start_standings(alloc, procs, setup.locks, setup.bars)?;
-        let memory = Items::from_vec(vec![in alloc; 0; setup.cells as usize]?);
-        let versions = Items::from_vec(vec![in alloc; 0; usize::from(setup.locks)]?);
+        let memory = start_memory(alloc, setup.cells)?;
+        let versions = start_versions(alloc, setup.locks)?;
         Ok(Plain {
             checked,
             setup,
