@@ -5,3 +5,4 @@ pub mod States
 pub mod Lists
 pub mod Turns
 pub mod Waits
+pub mod Completions

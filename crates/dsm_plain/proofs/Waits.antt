@@ -21,17 +21,20 @@ module _ (held : ℕ → ℕ → Option Mode) (p lock : ℕ) (mode : Mode) where
   or_true true = refl
   or_true false = refl
 
+  abbrev the_holder : ℕ → Mode → Bool → List Holder
+  the_holder q m test = if test then [] else record { proc = record { 0 = q }; mode = m } ∷ []
+
   none_blocks : (q : ℕ) (hold : Option Mode) → as_blocker p mode q hold ≡ [] → ((q == p) || may_stand_beside mode hold) ≡ true
   none_blocks q None h = or_true (q == p)
   none_blocks q (Some m) h = by ((q == p) || may_stand_beside mode (Some m)) h
     where
-      by : (test : Bool) → (if test then [] else record { proc = record { 0 = q }; mode = m } ∷ []) ≡ [] → test ≡ true
+      by : (test : Bool) → the_holder q m test ≡ [] → test ≡ true
       by true h = refl
       by false h = cc
 
   pass_blocks : (q : ℕ) (hold : Option Mode) → ((q == p) || may_stand_beside mode hold) ≡ true → as_blocker p mode q hold ≡ []
   pass_blocks q None h = refl
-  pass_blocks q (Some m) h = ap (λ test. if test then [] else record { proc = record { 0 = q }; mode = m } ∷ []) h
+  pass_blocks q (Some m) h = ap (the_holder q m) h
 
   pub can_if_none : (n : ℕ) → blockers n held p lock mode ≡ [] → can_take n held p lock mode ≡ true
   can_if_none zero h = refl
