@@ -6,3 +6,4 @@ pub mod Lists
 pub mod Turns
 pub mod Waits
 pub mod Completions
+pub mod Counts

@@ -1,5 +1,5 @@
 -- Nobody keeps a processor waiting exactly where its turn is possible.
-use Rattle.std.proofs.Common.{◌≡◌, ℕ, zero, suc, ◌<◌, ◌&&◌, ◌||◌, ◌==◌, Bool, true, false, if◌then◌else◌, nat_lt, List, [], ◌∷◌, ◌++◌, Option, Some, None, refl, sym, ap, ◌∙◌, subst}
+use Rattle.std.proofs.Common.{◌≡◌, ◌≢◌, ℕ, zero, suc, ◌<◌, ◌&&◌, ◌||◌, ◌==◌, Bool, true, false, if◌then◌else◌, nat_lt, List, [], ◌∷◌, ◌++◌, Option, Some, None, refl, sym, ap, ◌∙◌, subst}
 use Rattle.dsm_base.specs.declared.names.Mode.{Mode}
 use Rattle.dsm_base.specs.declared.names.Proc.{Proc}
 use Rattle.dsm_base.specs.declared.names.Lock.{Lock}
@@ -93,16 +93,16 @@ module _ (arrived : ℕ → ℕ → ℕ) (epoch bar : ℕ) where
 
 -- who wants to take a lock and can't is blocked
 pub is_blocked : {S : Type 0} (setup : Setup) (s : PlainState S) (p : ℕ) (text : List ℕ) (want : Want) (lock : Lock) (mode : Mode) (holders : List Holder)
-    → want ≡ Want.Take lock mode → can_take setup.procs s.held p lock.0 mode ≡ false → holders ≡ blockers setup.procs s.held p lock.0 mode
+    → want ≡ Want.Take lock mode → holders ≢ [] → can_take setup.procs s.held p lock.0 mode ≡ false → holders ≡ blockers setup.procs s.held p lock.0 mode
     → (plain_turn_of setup s p text want ≡ None) × (s ≡ s) × IsBlocked setup s p want holders
-is_blocked setup s p text want lock mode holders is cannot are =
+is_blocked setup s p text want lock mode holders is some cannot are =
     subst (λ w. (plain_turn_of setup s p text w ≡ None) × (s ≡ s) × IsBlocked setup s p w holders) (sym is)
-    (ap (λ test. if test then label_of setup.bindings p (seen_by s p) text (Want.Take lock mode) else None) cannot, refl, are)
+    (ap (λ test. if test then label_of setup.bindings p (seen_by s p) text (Want.Take lock mode) else None) cannot, refl, (some, are))
 
 -- who wants to cross a barrier and can't is ahead
 pub is_ahead : {S : Type 0} (setup : Setup) (s : PlainState S) (p : ℕ) (text : List ℕ) (want : Want) (bar : Bar) (procs : List Proc)
-    → want ≡ Want.Cross bar → can_cross setup.procs s.arrived (s.crossed p bar.0) bar.0 ≡ false → procs ≡ late setup.procs s.arrived (s.crossed p bar.0) bar.0
+    → want ≡ Want.Cross bar → procs ≢ [] → can_cross setup.procs s.arrived (s.crossed p bar.0) bar.0 ≡ false → procs ≡ late setup.procs s.arrived (s.crossed p bar.0) bar.0
     → (plain_turn_of setup s p text want ≡ None) × (s ≡ s) × IsAhead setup s p want procs
-is_ahead setup s p text want bar procs is cannot are =
+is_ahead setup s p text want bar procs is some cannot are =
     subst (λ w. (plain_turn_of setup s p text w ≡ None) × (s ≡ s) × IsAhead setup s p w procs) (sym is)
-    (ap (λ test. if test then label_of setup.bindings p (seen_by s p) text (Want.Cross bar) else None) cannot, refl, are)
+    (ap (λ test. if test then label_of setup.bindings p (seen_by s p) text (Want.Cross bar) else None) cannot, refl, (some, are))

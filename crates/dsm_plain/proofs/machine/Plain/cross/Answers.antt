@@ -1,4 +1,4 @@
-use Rattle.std.proofs.Common.{◌≡◌, ◌<◌, ◌∙◌, List, [], sym, ap, subst, length, true≢false}
+use Rattle.std.proofs.Common.{◌≡◌, ◌≢◌, ◌<◌, ◌∙◌, List, [], sym, ap, subst, length, true≢false}
 use Rattle.dsm_plain.specs.Machine.{machine_of, semantics_of, want_at, arrived_of, crossed_of, standing_at, no_standing}
 use Rattle.dsm_plain.specs.Waiting.{late}
 use Rattle.dsm_plain.proofs.States.{found_at}
@@ -27,5 +27,6 @@ returns-else-is_empty-clause-picked c =
     let epoch = c.crossings_at-epoch.ensures ∙ ap (λ s. crossed_of s bar) (sym (found_at (λ p. no_standing) plain.standings.items c.from.result p c.index.result.now c.index.ensures c.from.ensures within)) in
     let are = c.in_ok-missing.ensures ∙ ap (λ items. late (length items) (λ p. arrived_of (standing_at items p)) c.crossings_at-epoch.result bar) c.as_slice.ensures.value
     ∙ ap (λ n. late n arrived c.crossings_at-epoch.result bar) c.requires.whole.standings ∙ ap (λ e. late plain.setup.procs arrived e bar) epoch in
-    let cannot = no_cross_if_some arrived ((machine_of plain).crossed p bar) bar plain.setup.procs (λ none. true≢false (sym (c.is_empty.ensures.1 (are ∙ none)) ∙ c.if-is_empty.false)) in
-    is_ahead plain.setup (machine_of plain) p ((semantics_of plain).text ((machine_of plain).threads p)) (want_at plain p) c.args.bar c.in_ok-missing.missing c.requires.want cannot are
+    let some : c.in_ok-missing.missing ≢ [] = λ none. true≢false (sym (c.is_empty.ensures.1 none) ∙ c.if-is_empty.false) in
+    let cannot = no_cross_if_some arrived ((machine_of plain).crossed p bar) bar plain.setup.procs (λ none. some (are ∙ none)) in
+    is_ahead plain.setup (machine_of plain) p ((semantics_of plain).text ((machine_of plain).threads p)) (want_at plain p) c.args.bar c.in_ok-missing.missing c.requires.want some cannot are
