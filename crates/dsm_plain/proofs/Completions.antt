@@ -1,14 +1,13 @@
 -- What a turn with a label leaves of the machine.
-use Rattle.std.proofs.Common.{◌≡◌, ℕ, ℤ, pos, ◌<◌, List, refl, sym, ap, ◌∙◌, subst, map, length, get_or, set}
+use Rattle.std.proofs.Common.{◌≡◌, ℕ, ℤ, pos, ◌<◌, List, sym, ap, ◌∙◌, subst, map, length, get_or, set}
 use Rattle.dsm_base.specs.declared.label.Label.{Label}
 use Rattle.dsm_base.specs.Family.{update}
 use Rattle.dsm_base.specs.Plain.{PlainState, plain_after, held_after, arrived_after, crossed_after, memory_after, versions_after}
 use Rattle.dsm_check.specs.CheckedViews.{program_of}
 use Rattle.dsm_check.specs.Resolved as r
-use Rattle.dsm_check.specs.Semantics.{step, ready, completed}
+use Rattle.dsm_check.specs.Semantics.{ready, completed}
 use Rattle.dsm_check.specs.SemanticsItems.{State}
-use Rattle.dsm_check.specs.SemanticsSteps.{want_of}
-use Rattle.dsm_check.specs.SemanticsWithin.{Extent, extent_of, NamesWithin, AreFunctionsWithin, IsStateWithin}
+use Rattle.dsm_check.specs.SemanticsWithin.{Extent, extent_of, AreFunctionsWithin, IsStateWithin}
 use Rattle.dsm_check.proofs.SemanticsNames.{want_within, completed_within, ready_within}
 use Rattle.dsm_interpreter.specs.declared.thread.PlainThread.{PlainThread}
 use Rattle.dsm_interpreter.specs.Sound.{IsSoundState}

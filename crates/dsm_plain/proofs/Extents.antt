@@ -1,5 +1,5 @@
 -- What a program and its setup name.
-use Rattle.std.proofs.Common.{◌≡◌, ℕ, ◌≤◌, ◌<◌, ◌^◌, Bool, true, false, ◌&&◌, ℤ, List, [], ◌∷◌, refl, sym, subst, arith}
+use Rattle.std.proofs.Common.{◌≡◌, ℕ, ◌≤◌, ◌^◌, ℤ, List, refl, sym, subst, arith}
 use Rattle.std.specs.Prelude.{IsTrue, slice_get}
 use Rattle.std.proofs.lemmas.Bool.Decides.{nat_tests}
 use Rattle.dsm_base.specs.declared.setup.Piece.{Piece}
@@ -10,10 +10,8 @@ use Rattle.dsm_base.specs.Setups.{is_setup}
 use Rattle.dsm_base.specs.Threads.{Completes}
 use Rattle.dsm_check.specs.declared.checked.Checked.{Checked}
 use Rattle.dsm_check.specs.CheckedViews.{program_of}
-use Rattle.dsm_check.specs.Programs.{Program}
 use Rattle.dsm_check.specs.Setups.{IsSetupOf}
 use Rattle.dsm_check.specs.Semantics.{numbered, started}
-use Rattle.dsm_check.specs.SemanticsSteps.{answer_of}
 use Rattle.dsm_check.specs.SemanticsWithin.{Extent, extent_of, NamesWithin, AreFunctionsWithin, IsStateWithin}
 use Rattle.dsm_check.proofs.Settings.{setting}
 use Rattle.dsm_check.proofs.SemanticsAccepted.{accepted_within}

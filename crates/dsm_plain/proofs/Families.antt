@@ -1,7 +1,6 @@
 -- Lists that are read as families.
-use Rattle.std.proofs.Common.{◌≡◌, ◌<◌, ◌≤◌, ℕ, zero, suc, ◌+◌, Bool, true, false, List, [], ◌∷◌, ◌++◌, refl, sym, map, replicate, Option, Some, None, length, get_or, set, inl, inr, ap, ◌∙◌, get_or-set_same, get_or-set_other, if◌then◌else◌, ◌==◌, arith}
+use Rattle.std.proofs.Common.{◌≡◌, ◌<◌, ℕ, zero, suc, Bool, true, false, List, [], ◌∷◌, ◌++◌, refl, replicate, Option, Some, None, length, get_or, set, inl, inr, ap, ◌∙◌, get_or-set_same, get_or-set_other, if◌then◌else◌, ◌==◌, arith}
 use Rattle.std.proofs.lemmas.Option.{unwrap_or-slice_get}
-use Rattle.std.proofs.lemmas.List.{map-set, length-map}
 use Rattle.std.specs.Option.{option_flatten}
 use Rattle.std.specs.List.{slice_get, All}
 use Rattle.std.proofs.lemmas.List.Elements.{All-append}

@@ -1,5 +1,5 @@
 -- The labels of turns, and picks in a machine that is in the same state.
-use Rattle.std.proofs.Common.{◌≡◌, ℕ, zero, suc, ◌<◌, ◌&&◌, Bool, true, false, cond, if◌then◌else◌, nat_lt, List, Option, Some, None, is_some, Result, IfOk, refl, sym, ap, ◌∙◌, subst, arith, inl, inr}
+use Rattle.std.proofs.Common.{◌≡◌, ℕ, ◌<◌, Bool, true, false, if◌then◌else◌, nat_lt, List, Some, is_some, Result, IfOk, refl, sym, ap, ◌∙◌, subst}
 use Rattle.std.specs.Prelude.{IsTrue}
 use Rattle.std.proofs.lemmas.Bool.{ltb-true}
 use Rattle.dsm_base.specs.declared.errors.MemFault.{MemFault}
@@ -10,9 +10,7 @@ use Rattle.dsm_base.specs.declared.label.Label.{Label}
 use Rattle.dsm_base.specs.declared.setup.Piece.{Piece}
 use Rattle.dsm_base.specs.declared.setup.Setup.{Setup}
 use Rattle.dsm_base.specs.Access.{may_load, may_store}
-use Rattle.dsm_base.specs.Family.{all_below}
 use Rattle.dsm_base.specs.Plain.{PlainState, Surroundings, label_of, is_possible, can_cross}
-use Rattle.dsm_base.specs.Threads.{Semantics}
 use Rattle.dsm_check.specs.declared.checked.Checked.{Checked}
 use Rattle.dsm_check.specs.CheckedViews.{program_of}
 use Rattle.dsm_check.specs.Semantics.{program_semantics}

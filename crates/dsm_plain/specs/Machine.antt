@@ -1,5 +1,5 @@
 -- What the machine of one memory in the code shows.
-use Rattle.std.specs.Prelude.{◌≡◌, ℕ, ℤ, pos, ◌<◌, List, [], map, length, Option, None}
+use Rattle.std.specs.Prelude.{◌≡◌, ℕ, pos, ◌<◌, List, [], map, length, Option, None}
 use Rattle.std.specs.List.{All, slice_index_or}
 use Rattle.dsm_base.specs.declared.names.Mode.{Mode}
 use Rattle.dsm_base.specs.declared.label.Label.{Label}

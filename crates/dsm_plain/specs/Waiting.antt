@@ -1,8 +1,6 @@
 -- What a pick tells, and who keeps a processor waiting, in increasing order.
-use Rattle.std.specs.Prelude.{◌≡◌, ◌≢◌, ℕ, zero, suc, ◌+◌, ◌||◌, ◌==◌, if◌then◌else◌, nat_lt, List, [], ◌∷◌, ◌++◌, Option, Some, None}
+use Rattle.std.specs.Prelude.{◌≡◌, ◌≢◌, ℕ, zero, suc, ◌||◌, ◌==◌, if◌then◌else◌, nat_lt, List, [], ◌∷◌, ◌++◌, Option, Some, None}
 use Rattle.dsm_base.specs.declared.names.Proc.{Proc}
-use Rattle.dsm_base.specs.declared.names.Lock.{Lock}
-use Rattle.dsm_base.specs.declared.names.Bar.{Bar}
 use Rattle.dsm_base.specs.declared.names.Mode.{Mode}
 use Rattle.dsm_base.specs.declared.label.Want.{Want}
 use Rattle.dsm_base.specs.declared.setup.Setup.{Setup}

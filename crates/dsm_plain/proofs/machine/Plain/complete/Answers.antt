@@ -1,4 +1,4 @@
-use Rattle.std.proofs.Common.{◌≡◌, ◌<◌, ◌∙◌, List, sym, ap, subst, get_or}
+use Rattle.std.proofs.Common.{◌≡◌, ◌<◌, ◌∙◌, List, sym, ap, subst}
 use Rattle.std.proofs.lemmas.List.{length-set}
 use Rattle.std.proofs.lemmas.List.Elements.{All-set}
 use Rattle.dsm_base.specs.Plain.{held_after, arrived_after, crossed_after, versions_after}
@@ -8,9 +8,8 @@ use Rattle.dsm_check.specs.Semantics.{ready, completed}
 use Rattle.dsm_check.specs.SemanticsWithin.{extent_of, IsStateWithin}
 use Rattle.dsm_interpreter.specs.Sound.{IsSoundState}
 use Rattle.dsm_interpreter.specs.Threads.{state_of}
-use Rattle.dsm_plain.specs.declared.standing.Standing.{Standing}
 use Rattle.dsm_plain.specs.Labels.{TakesLocks, WritesCells, PassesBarriers}
-use Rattle.dsm_plain.specs.Machine.{HasSizes, IsReady, machine_of, standing_at, no_standing, held_of, arrived_of, crossed_of}
+use Rattle.dsm_plain.specs.Machine.{HasSizes, IsReady, machine_of, no_standing, held_of, arrived_of, crossed_of}
 use Rattle.dsm_plain.proofs.Completions.{label_is_within, sound_after, ready_after_within, machine_after, standings_have}
 use Rattle.dsm_plain.proofs.Outcomes.{on_ok}
 use Rattle.dsm_plain.proofs.States.{found_at, found_has, ready_is}

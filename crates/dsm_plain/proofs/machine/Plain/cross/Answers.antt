@@ -1,4 +1,4 @@
-use Rattle.std.proofs.Common.{◌≡◌, ◌≢◌, ◌<◌, ◌∙◌, List, [], sym, ap, subst, length, true≢false}
+use Rattle.std.proofs.Common.{◌≢◌, ◌<◌, ◌∙◌, [], sym, ap, subst, length, true≢false}
 use Rattle.dsm_plain.specs.Machine.{machine_of, semantics_of, want_at, arrived_of, crossed_of, standing_at, no_standing}
 use Rattle.dsm_plain.specs.Waiting.{late}
 use Rattle.dsm_plain.proofs.States.{found_at}

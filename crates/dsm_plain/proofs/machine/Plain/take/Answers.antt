@@ -1,4 +1,4 @@
-use Rattle.std.proofs.Common.{◌≡◌, ◌≢◌, ◌∙◌, List, [], sym, ap, length, true≢false}
+use Rattle.std.proofs.Common.{◌≢◌, ◌∙◌, [], sym, ap, length, true≢false}
 use Rattle.dsm_plain.specs.Machine.{machine_of, semantics_of, want_at, held_of, standing_at}
 use Rattle.dsm_plain.specs.Waiting.{blockers}
 use Rattle.dsm_plain.proofs.Waits.{can_if_none, cannot_if_some, is_blocked}

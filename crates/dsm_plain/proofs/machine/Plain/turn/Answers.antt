@@ -1,4 +1,4 @@
-use Rattle.std.proofs.Common.{◌≡◌, ◌∙◌, sym, subst, arith}
+use Rattle.std.proofs.Common.{◌∙◌, sym, subst, arith}
 use Rattle.dsm_base.specs.Plain.{seen_by}
 use Rattle.dsm_plain.specs.Labels.{Follows}
 use Rattle.dsm_plain.specs.Machine.{machine_of, semantics_of}
