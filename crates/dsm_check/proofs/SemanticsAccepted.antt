@@ -393,9 +393,15 @@ module _ (extent : Extent) where
           let first = start_within (open_block scope) start begun e1 all in
           let names = begun.1.names in
           let kept = closing_within (IsStatementWithin extent) _ inner e4 (λ deep f. statement_within true (open_block begun.1) body deep f first.1) in
-          ok_in Keeps _ inside h4
-          ((first.0, optional_within names first.1 (resolve names) (expression_within names first.1) test condition e2,
-          optional_within names first.1 (resolve_effect names) (effect_within names first.1) step effect e3, kept.0), kept.1))))))
+          ok_in Keeps _ inside h4 (
+            (
+              first.0,
+              optional_within names first.1 (resolve names) (expression_within names first.1) test condition e2,
+              optional_within names first.1 (resolve_effect names) (effect_within names first.1) step effect e3,
+              kept.0,
+            ),
+            kept.1,
+          ))))))
       statement_within looped scope (t.break line) made h all = by looped h
         where
           by : (test : Bool) → (if test then Ok (r.break, scope) else Err (err.OutsideLoop line)) ≡ Ok made → Keeps made

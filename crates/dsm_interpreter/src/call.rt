@@ -12,8 +12,8 @@ ghost use Rattle.dsm_interpreter.specs.Threads.{Makes, callee_of, state_of, fram
 
 use crate::frame::{Frame, Life};
 use crate::item::Item;
-use crate::thread::PlainThread;
 use crate::stack::Stack;
+use crate::thread::PlainThread;
 use dsm_base::{Fault, MemFault, Want};
 use dsm_check::{Function, Statement};
 use std::alloc::Global;

@@ -1,5 +1,5 @@
 -- What a program and its setup name.
-use Rattle.std.proofs.Common.{◌≡◌, ℕ, ◌≤◌, ◌<◌, ◌^◌, Bool, true, false, ◌&&◌, ℤ, List, [], ◌∷◌, refl, sym, subst, arith}
+use Rattle.std.proofs.Common.{◌≡◌, ℕ, ◌≤◌, ◌^◌, ℤ, List, refl, sym, subst, arith}
 use Rattle.std.specs.Prelude.{IsTrue, slice_get}
 use Rattle.std.proofs.lemmas.Bool.Decides.{nat_tests}
 use Rattle.dsm_base.specs.declared.setup.Piece.{Piece}
@@ -10,9 +10,8 @@ use Rattle.dsm_base.specs.Setups.{is_setup}
 use Rattle.dsm_base.specs.Threads.{Completes}
 use Rattle.dsm_check.specs.declared.checked.Checked.{Checked}
 use Rattle.dsm_check.specs.CheckedViews.{program_of}
-use Rattle.dsm_check.specs.Programs.{Program}
+use Rattle.dsm_check.specs.Setups.{IsSetupOf}
 use Rattle.dsm_check.specs.Semantics.{numbered, started}
-use Rattle.dsm_check.specs.SemanticsSteps.{answer_of}
 use Rattle.dsm_check.specs.SemanticsWithin.{Extent, extent_of, NamesWithin, AreFunctionsWithin, IsStateWithin}
 use Rattle.dsm_check.proofs.Settings.{setting}
 use Rattle.dsm_check.proofs.SemanticsAccepted.{accepted_within}
@@ -36,6 +35,12 @@ narrow_program checked =
 
 pub functions_within : (checked : Checked) → AreFunctionsWithin (extent_in (program_of checked)) (program_of checked).functions
 functions_within checked = accepted_within (program_of checked) checked.names.numbered checked.accepted
+
+-- a setup of a program has as many of each
+pub functions_set_up : (checked : Checked) (count : ℕ) (setup : Setup) → IsSetupOf (program_of checked) count setup → AreFunctionsWithin (extent_of setup) (program_of checked).functions
+functions_set_up checked count setup is =
+    let same : extent_in (program_of checked) ≡ extent_of setup = λ i. record { cells = sym is.cells i; locks = sym is.locks i; bars = sym is.bars i } in
+    subst (λ extent. AreFunctionsWithin extent (program_of checked).functions) same (functions_within checked)
 
 pub started_within : (checked : Checked) (procs me : ℕ)
     → IsStateWithin (extent_in (program_of checked)) (started (numbered (slice_get (program_of checked).functions (program_of checked).main)) (program_of checked).private_cells procs me)

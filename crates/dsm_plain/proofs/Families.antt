@@ -1,9 +1,9 @@
 -- Lists that are read as families.
-use Rattle.std.proofs.Common.{◌≡◌, ◌<◌, ◌≤◌, ℕ, zero, suc, ◌+◌, Bool, true, false, List, [], ◌∷◌, ◌++◌, refl, sym, map, replicate, Option, Some, None, length, get_or, set, inl, inr, ap, ◌∙◌, get_or-set_same, get_or-set_other, if◌then◌else◌, ◌==◌}
+use Rattle.std.proofs.Common.{◌≡◌, ◌<◌, ℕ, zero, suc, Bool, true, false, List, [], ◌∷◌, ◌++◌, refl, replicate, Option, Some, None, length, get_or, set, inl, inr, ap, ◌∙◌, get_or-set_same, get_or-set_other, if◌then◌else◌, ◌==◌, arith}
 use Rattle.std.proofs.lemmas.Option.{unwrap_or-slice_get}
-use Rattle.std.proofs.lemmas.List.{map-set, length-map}
 use Rattle.std.specs.Option.{option_flatten}
-use Rattle.std.specs.List.{slice_get}
+use Rattle.std.specs.List.{slice_get, All}
+use Rattle.std.proofs.lemmas.List.Elements.{All-append}
 use Rattle.std.proofs.lemmas.Bool.Decides.{eqb_tells}
 use Rattle.dsm_base.specs.Family.{update}
 use Rattle.dsm_plain.specs.Machine.{family_of}
@@ -46,3 +46,19 @@ family_of_push default [] item is before zero = is
 family_of_push default [] item is before (suc i) = refl
 family_of_push default (first ∷ items) item is before zero = before zero
 family_of_push default (first ∷ items) item is before (suc i) = family_of_push (λ k. default (suc k)) items item is (λ k. before (suc k)) i
+
+-- what a function makes of each of a list and of the default, one item on
+pub push_under : {A B : Type 0} (f : A → B) (default : A) (items : List A) (item : A) → f item ≡ f default → ((i : ℕ) → f (family_of (λ _. default) items i) ≡ f default)
+    → (i : ℕ) → f (family_of (λ _. default) (items ++ item ∷ []) i) ≡ f default
+push_under f default [] item is before zero = is
+push_under f default [] item is before (suc i) = refl
+push_under f default (first ∷ items) item is before zero = before zero
+push_under f default (first ∷ items) item is before (suc i) = push_under f default items item is (λ k. before (suc k)) i
+
+-- what holds of all holds of all with one more
+pub all_push : {A : Type 0} (P : A → Type 0) (items : List A) (item : A) → All P items → P item → All P (items ++ item ∷ [])
+all_push {A} P items item all one = All-append P items (item ∷ []) all (λ k d below. by k d below)
+  where
+    by : (k : ℕ) (d : A) → k < 1 → P (get_or (item ∷ []) k d)
+    by zero d below = one
+    by (suc k) d below = absurd (omega arith)

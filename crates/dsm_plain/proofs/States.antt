@@ -1,5 +1,5 @@
 -- The threads' states in a machine, by their numbers.
-use Rattle.std.proofs.Common.{◌≡◌, ℕ, ◌<◌, List, refl, sym, ap, ◌∙◌, subst, map, length, get_or, set, get_or-set_same}
+use Rattle.std.proofs.Common.{◌≡◌, ℕ, zero, suc, ◌<◌, List, [], ◌∷◌, sym, ap, ◌∙◌, subst, map, length, get_or, set, get_or-set_same, arith}
 use Rattle.std.specs.List.{All}
 use Rattle.std.proofs.lemmas.List.{map-set, length-map, length-set, get_or-map, get_or_default}
 use Rattle.std.proofs.lemmas.List.Elements.{All-get_or}
@@ -61,3 +61,10 @@ states_put first threads i p thread state same within is =
     ∙ family_of_set first (map state_of threads) i (state_of thread) (subst (λ n. i < n) (sym (length-map threads state_of)) (subst (λ n. n < length threads) (sym same) within))
     ∙ ap (λ n. update (family_of first (map state_of threads)) n (state_of thread)) same
     ∙ ap (update (family_of first (map state_of threads)) p) is
+
+-- what holds of all states holds of each
+pub states_have : (P : State → Type 0) (default : State) (threads : List PlainThread) (p : ℕ) → p < length threads → All (λ thread. P (state_of thread)) threads
+    → P (get_or (map state_of threads) p default)
+states_have P default [] p h all = absurd (omega arith)
+states_have P default (thread ∷ threads) zero h all = all 0 thread (omega arith)
+states_have P default (thread ∷ threads) (suc p) h all = states_have P default threads p (omega arith) (λ k d below. all (suc k) d (omega arith))

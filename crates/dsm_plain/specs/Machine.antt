@@ -1,5 +1,5 @@
 -- What the machine of one memory in the code shows.
-use Rattle.std.specs.Prelude.{◌≡◌, ◌≢◌, ℕ, ℤ, pos, ◌<◌, List, [], map, length, Option, None}
+use Rattle.std.specs.Prelude.{◌≡◌, ℕ, pos, ◌<◌, List, [], map, length, Option, None}
 use Rattle.std.specs.List.{All, slice_index_or}
 use Rattle.dsm_base.specs.declared.names.Mode.{Mode}
 use Rattle.dsm_base.specs.declared.label.Label.{Label}
@@ -84,6 +84,11 @@ seen_standing plain standing = record {
 pub record AreFew (s : PlainState State) : Type 0 where
   pub versions : (lock : ℕ) → s.versions lock < 4000000000
   pub arrived : (p bar : ℕ) → s.arrived p bar < 4000000000
+
+-- all counts are below a bound
+pub record AreBelow (bound : ℕ) (s : PlainState State) : Type 0 where
+  pub versions : (lock : ℕ) → s.versions lock < bound
+  pub arrived : (p bar : ℕ) → s.arrived p bar < bound
 
 -- a thread that stands right before its next labelled step
 abbrev pub IsReady : List r.Function → PlainThread → Type 0

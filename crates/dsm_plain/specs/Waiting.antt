@@ -1,8 +1,6 @@
 -- What a pick tells, and who keeps a processor waiting, in increasing order.
-use Rattle.std.specs.Prelude.{◌≡◌, ℕ, zero, suc, ◌+◌, ◌||◌, ◌==◌, if◌then◌else◌, nat_lt, List, [], ◌∷◌, ◌++◌, Option, Some, None}
+use Rattle.std.specs.Prelude.{◌≡◌, ◌≢◌, ℕ, zero, suc, ◌||◌, ◌==◌, if◌then◌else◌, nat_lt, List, [], ◌∷◌, ◌++◌, Option, Some, None}
 use Rattle.dsm_base.specs.declared.names.Proc.{Proc}
-use Rattle.dsm_base.specs.declared.names.Lock.{Lock}
-use Rattle.dsm_base.specs.declared.names.Bar.{Bar}
 use Rattle.dsm_base.specs.declared.names.Mode.{Mode}
 use Rattle.dsm_base.specs.declared.label.Want.{Want}
 use Rattle.dsm_base.specs.declared.setup.Setup.{Setup}
@@ -28,12 +26,12 @@ late (suc n) arrived epoch bar = late n arrived epoch bar ++ (if nat_lt epoch (a
 
 -- why there is no turn: holders keep p from a lock that it wants to take
 abbrev pub IsBlocked : {S : Type 0} → Setup → PlainState S → ℕ → Want → List Holder → Type 0
-IsBlocked setup s p (Want.Take lock mode) holders = holders ≡ blockers setup.procs s.held p lock.0 mode
+IsBlocked setup s p (Want.Take lock mode) holders = (holders ≢ []) × (holders ≡ blockers setup.procs s.held p lock.0 mode)
 IsBlocked setup s p _ holders = ⊥
 
 -- why there is no turn: some haven't come to a barrier that p wants to cross
 abbrev pub IsAhead : {S : Type 0} → Setup → PlainState S → ℕ → Want → List Proc → Type 0
-IsAhead setup s p (Want.Cross bar) procs = procs ≡ late setup.procs s.arrived (s.crossed p bar.0) bar.0
+IsAhead setup s p (Want.Cross bar) procs = (procs ≢ []) × (procs ≡ late setup.procs s.arrived (s.crossed p bar.0) bar.0)
 IsAhead setup s p _ procs = ⊥
 
 -- p makes its turn, or has none: the state is as before, and the answer says why

@@ -1,17 +1,17 @@
 //! The machine of one memory, and its picks.
 
-ghost use Rattle.std.specs.Prelude.{◌≡◌, ◌<◌, Ok, IsTrue, OnOk, IfOk};
+ghost use Rattle.std.specs.Prelude.{◌≡◌, ◌<◌, ◌+◌, ℕ, Ok, IsTrue, OnOk, IfOk};
 ghost use Rattle.dsm_base.specs.Plain.{plain_start, is_possible};
 ghost use Rattle.dsm_base.specs.Setups.{is_proc_count};
 ghost use Rattle.dsm_base.specs.declared.label.Want.{Want};
 ghost use Rattle.dsm_check.specs.CheckedViews.{program_of};
 ghost use Rattle.dsm_check.specs.Setups.{IsSetupOf, fitting};
 ghost use Rattle.dsm_check.specs.Semantics.{program_semantics};
-ghost use Rattle.dsm_plain.specs.Machine.{machine_of, semantics_of, want_at, first_states, AreFew, IsWhole, IsSameProgram};
+ghost use Rattle.dsm_plain.specs.Machine.{machine_of, semantics_of, want_at, first_states, AreBelow, AreFew, IsWhole, IsSameProgram};
 ghost use Rattle.dsm_plain.specs.Waiting.{IsPick};
 
 use crate::standing::{Numbers, Standing};
-use crate::start::{start_standings, start_threads};
+use crate::start::{start_memory, start_standings, start_threads, start_versions};
 use crate::waiting::{Picked, blockers, late};
 use dsm_base::{Bar, Lock, MemFault, Mode, Proc, Setup, Want};
 use dsm_check::Checked;
@@ -45,8 +45,8 @@ impl<'a> Plain<'a> {
         let setup = checked.setup(alloc, procs)?;
         let threads = start_threads(alloc, checked, procs)?;
         let standings = start_standings(alloc, procs, setup.locks, setup.bars)?;
-        let memory = Items::from_vec(vec![in alloc; 0; setup.cells as usize]?);
-        let versions = Items::from_vec(vec![in alloc; 0; usize::from(setup.locks)]?);
+        let memory = start_memory(alloc, setup.cells)?;
+        let versions = start_versions(alloc, setup.locks)?;
         Ok(Plain {
             checked,
             setup,
@@ -60,6 +60,20 @@ impl<'a> Plain<'a> {
 
     /// The processor makes its turn, where its thread can make one. `MemFault` comes for want of memory.
     pub fn pick(&mut self, proc: Proc) -> Result<Picked, MemFault>
+        requires whole { IsWhole self.old }
+        requires processor { proc.0 < self.old.setup.procs }
+        requires few { AreFew (machine_of self.old) }
+        ensures setup { self.new.setup ≡ self.old.setup }
+        ensures program { self.new.checked.now ≡ self.old.checked.now }
+        ensures picked { IfOk result (IsPick self.old.setup (program_semantics (program_of self.old.checked.now).functions) (machine_of self.old) proc.0 (machine_of self.new)) }
+        ensures whole { OnOk result (IsWhole self.new) }
+        ensures counts { OnOk result ((bound : ℕ) → AreBelow bound (machine_of self.old) → AreBelow (bound + 1) (machine_of self.new)) }
+    {
+        self.pick_of(proc)
+    }
+
+    /// The pick, without what it makes of the counts.
+    fn pick_of(&mut self, proc: Proc) -> Result<Picked, MemFault>
         requires whole { IsWhole self.old }
         requires processor { proc.0 < self.old.setup.procs }
         requires few { AreFew (machine_of self.old) }

@@ -1,17 +1,17 @@
 //! The machine before the first turn.
 
-ghost use Rattle.std.specs.Prelude.{◌≡◌, ℕ, List, map, length, IsTrue, IfOk};
+ghost use Rattle.std.specs.Prelude.{◌≡◌, ℕ, pos, map, length, IfOk};
 ghost use Rattle.std.specs.List.{All};
-ghost use Rattle.dsm_base.specs.Setups.{is_proc_count};
 ghost use Rattle.dsm_check.specs.CheckedViews.{program_of};
 ghost use Rattle.dsm_check.specs.SemanticsWithin.{IsStateWithin};
 ghost use Rattle.dsm_interpreter.specs.Threads.{state_of};
 ghost use Rattle.dsm_plain.specs.Machine.{family_of, first_states, no_standing, standing_at, extent_in, IsReady, HasSizes, held_of, arrived_of, crossed_of};
 
-use crate::standing::Standing;
+use crate::standing::{Numbers, Standing};
 use dsm_base::{MemFault, Proc};
 use dsm_check::Checked;
 use dsm_interpreter::PlainThread;
+use sqlite_items::Items;
 use std::alloc::Global;
 
 /// The thread of a processor, right before its first labelled step.
@@ -73,4 +73,22 @@ pub fn start_standings(
         standings.push(Standing::new(alloc, locks, bars)?)?;
     }
     Ok(standings)
+}
+
+/// The memory before the first turn.
+#[tactic(auto, using(crate::proofs::Families::family_of_replicate))]
+pub fn start_memory(alloc: Global, cells: u32) -> Result<Items<i64>, MemFault>
+    ensures zeros { IfOk result (λ memory. family_of (λ cell. pos 0) memory ≡ (λ cell. pos 0)) }
+    ensures length { IfOk result (λ memory. length memory ≡ cells) }
+{
+    Ok(Items::from_vec(vec![in alloc; 0; cells as usize]?))
+}
+
+/// The versions before the first turn.
+#[tactic(auto, using(crate::proofs::Families::family_of_replicate))]
+pub fn start_versions(alloc: Global, locks: u16) -> Result<Numbers, MemFault>
+    ensures zeros { IfOk result (λ versions. family_of (λ lock. 0) versions ≡ (λ lock. 0)) }
+    ensures length { IfOk result (λ versions. length versions ≡ locks) }
+{
+    Ok(Items::from_vec(vec![in alloc; 0; usize::from(locks)]?))
 }

@@ -2,6 +2,7 @@
 
 ghost use Rattle.std.specs.Prelude.{◌≡◌, ◌<◌, ℕ, pos, [], length, map, Some, is_some, if◌then◌else◌, OnOk, IfOk};
 ghost use Rattle.dsm_base.specs.Plain.{plain_after, memory_after, versions_after, label_of};
+ghost use Rattle.dsm_base.specs.declared.names.Bar.{Bar};
 ghost use Rattle.dsm_base.specs.declared.names.Fault.{Fault};
 ghost use Rattle.dsm_base.specs.declared.label.Label.{Label};
 ghost use Rattle.dsm_base.specs.declared.label.Want.{Want};
@@ -98,7 +99,7 @@ impl<'a> Plain<'a> {
     pub(crate) fn label(&self, proc: Proc, want: Want) -> Result<Option<Label>, MemFault>
         requires whole { IsWhole self.now }
         requires processor { proc.0 < self.now.setup.procs }
-        requires few { (bar : ℕ) → (machine_of self.now).crossed proc.0 bar < 4000000000 }
+        requires room { (bar : Bar) → want ≡ Want.Cross bar → (machine_of self.now).crossed proc.0 bar.0 < 4000000000 }
         ensures { IfOk result (λ label. label ≡ label_at self.now proc.0 want) }
     {
         let standing = &self.standings[usize::from(proc.0)];

@@ -80,12 +80,7 @@ pub fn blockers(
 }
 
 /// Those who haven't come to a barrier for its next epoch.
-pub fn late(
-    alloc: Global,
-    standings: &[Standing],
-    epoch: u32,
-    bar: Bar,
-) -> Result<Procs, MemFault>
+pub fn late(alloc: Global, standings: &[Standing], epoch: u32, bar: Bar) -> Result<Procs, MemFault>
     requires { length standings.now ≤ 16 }
     ensures { IfOk result (λ procs. procs ≡ Waiting.late (length standings.now) (λ p. arrived_of (standing_at standings.now p)) epoch bar.0) }
 {

@@ -1,4 +1,4 @@
-use Rattle.std.proofs.Common.{◌≡◌, ◌<◌, ◌∙◌, List, ap, sym, subst}
+use Rattle.std.proofs.Common.{◌<◌, ◌∙◌, List, ap, sym, subst}
 use Rattle.dsm_check.specs.CheckedViews.{program_of}
 use Rattle.dsm_check.specs.Semantics.{step}
 use Rattle.dsm_check.specs.SemanticsItems.{State}
@@ -15,9 +15,11 @@ use Rattle.dsm_plain.proofs.machine.Plain.want.Goals as goal
 pub want-requires : goal.want-requires
 want-requires c =
     let plain = c.args.self.now in
-    let within = subst (λ n. c.args.proc.0 < n) (sym c.requires.whole.threads) c.requires.processor in
-    (extent_of plain.setup, narrow_setup plain.setup,
-    found_has (λ thread. IsStateWithin (extent_of plain.setup) (state_of thread)) plain.threads.items c.from.result c.args.proc.0 c.index_mut.result.now c.index_mut.ensures.value c.from.ensures within c.requires.whole.within)
+    let within = subst (λ n. c.args.proc.0 < n) (sym c.requires.whole.threads) c.requires.processor in (
+      extent_of plain.setup,
+      narrow_setup plain.setup,
+      found_has (λ thread. IsStateWithin (extent_of plain.setup) (state_of thread)) plain.threads.items c.from.result c.args.proc.0 c.index_mut.result.now c.index_mut.ensures.value c.from.ensures within c.requires.whole.within,
+    )
 
 pub returns-clause-want : goal.returns-clause-want
 returns-clause-want c =
