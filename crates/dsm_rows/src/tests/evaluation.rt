@@ -7,6 +7,31 @@ use sqlite_items::Items;
 use std::alloc::Global;
 use std::test::Fail;
 
+/// The greatest and the least number.
+const NUMBERS: &str =
+    "int big; int low; int main(int me, int n) { big = 9223372036854775807; low = -big - 1;";
+
+/// Places to assign to.
+const PLACES: &str = "int p; int q[2]; int main(int me, int n) { int x = 10;";
+
+/// Functions that note in which order they are called.
+const NOTES: &str =
+    "int noted; int q[9]; int d(int digit) { noted = noted * 10 + digit; return digit; } \
+    int h(int a, int b, int c) { return a + b + c; } int main(int me, int n) {";
+
+/// Shared cells, all of which may be stored to.
+const CELLS: &str =
+    "shared int x; shared int a[2]; lock_t L; lock_t M[2]; bind(L, x, 0, 1); bindeach(M, a, 1); \
+    int main(int me, int n) { acquire(L); acquire(M[0]); acquire(M[1]);";
+
+/// Cells, locks, and calls that go `k` deep, on four lines.
+const FAULTY: &str =
+    "shared int x; lock_t L; lock_t M[2]; bind(L, x, 0, 1); int q[2]; int f(int k) {\nreturn k ?\nf\n(k - 1) : 0; }\nint main(int me, int n) {";
+
+/// Functions that end without a value, and early.
+const FUNCTIONS: &str =
+    "int nothing(int k) { k = 1; } int early(int k) { if (k) return 1; return 2; } int main(int me, int n) {";
+
 /// What is written where processor 0 of two makes its turns alone, over one memory.
 fn written(alloc: Global, program: &str) -> Result<MemSink, Fail> {
     let mut files: NamedFiles = Items::new(alloc);
@@ -17,6 +42,23 @@ fn written(alloc: Global, program: &str) -> Result<MemSink, Fail> {
     let words = words(alloc, "plain prog picks")?;
     run_tool(alloc, words.as_slice(), &mut files, &mut sink);
     Ok(sink)
+}
+
+/// What is written where a program that begins so prints these parts, which begin on its second line.
+fn printed(alloc: Global, start: &str, parts: &str) -> Result<MemSink, Fail> {
+    let program = format!(in alloc; "{start} print(\n{parts}); }}")?;
+    written(alloc, program.as_str())
+}
+
+/// What is written where a program that begins so goes on with these statements.
+fn done(alloc: Global, start: &str, statements: &str) -> Result<MemSink, Fail> {
+    let program = format!(in alloc; "{start} {statements} }}")?;
+    written(alloc, program.as_str())
+}
+
+/// A line of processor 0.
+fn line(alloc: Global, text: &str) -> Result<String, Fail> {
+    Ok(format!(in alloc; "P0: {text}\n")?)
 }
 
 #[test]
@@ -56,9 +98,12 @@ fn numbers(rt: HostRuntime) -> Result<(), Fail> {
         ("+low", "-9223372036854775808"),
     ];
     for (expression, outcome) in table {
-        let program = format!(in alloc; "int big; int low; int main(int me, int n) {{ big = 9223372036854775807; low = -big - 1; print(\n{expression}); }}")?;
-        let wanted = format!(in alloc; "P0: {outcome}\n")?;
-        assert_eq!(rt; written(alloc, program.as_str())?.bytes(), wanted.as_bytes(), "{expression}");
+        let found = printed(alloc, NUMBERS, expression)?;
+        assert_eq!(rt;
+            found.bytes(),
+            line(alloc, outcome)?.as_bytes(),
+            "{expression}"
+        );
     }
     Ok(())
 }
@@ -93,9 +138,12 @@ fn shifts_and_bits(rt: HostRuntime) -> Result<(), Fail> {
         ("~low", "9223372036854775807"),
     ];
     for (expression, outcome) in table {
-        let program = format!(in alloc; "int big; int low; int main(int me, int n) {{ big = 9223372036854775807; low = -big - 1; print(\n{expression}); }}")?;
-        let wanted = format!(in alloc; "P0: {outcome}\n")?;
-        assert_eq!(rt; written(alloc, program.as_str())?.bytes(), wanted.as_bytes(), "{expression}");
+        let found = printed(alloc, NUMBERS, expression)?;
+        assert_eq!(rt;
+            found.bytes(),
+            line(alloc, outcome)?.as_bytes(),
+            "{expression}"
+        );
     }
     Ok(())
 }
@@ -130,9 +178,12 @@ fn conditions(rt: HostRuntime) -> Result<(), Fail> {
         ("0 ? 1 / 0 : 3", "3"),
     ];
     for (expression, outcome) in table {
-        let program = format!(in alloc; "int big; int low; int main(int me, int n) {{ big = 9223372036854775807; low = -big - 1; print(\n{expression}); }}")?;
-        let wanted = format!(in alloc; "P0: {outcome}\n")?;
-        assert_eq!(rt; written(alloc, program.as_str())?.bytes(), wanted.as_bytes(), "{expression}");
+        let found = printed(alloc, NUMBERS, expression)?;
+        assert_eq!(rt;
+            found.bytes(),
+            line(alloc, outcome)?.as_bytes(),
+            "{expression}"
+        );
     }
     Ok(())
 }
@@ -175,16 +226,16 @@ fn assignments(rt: HostRuntime) -> Result<(), Fail> {
         ("q[1 / 0]", "fault divzero line 2"),
     ];
     for (expression, outcome) in table {
-        let program = format!(in alloc; "int p; int q[2]; int main(int me, int n) {{ int x = 10; print(\n{expression}, \" \", x); }}")?;
-        let wanted = format!(in alloc; "P0: {outcome}\n")?;
-        assert_eq!(rt; written(alloc, program.as_str())?.bytes(), wanted.as_bytes(), "{expression}");
+        let parts = format!(in alloc; "{expression}, \" \", x")?;
+        let found = printed(alloc, PLACES, parts.as_str())?;
+        assert_eq!(rt;
+            found.bytes(),
+            line(alloc, outcome)?.as_bytes(),
+            "{expression}"
+        );
     }
     Ok(())
 }
-
-/// Functions that note in which order they are called.
-const NOTES: &str =
-    "int noted; int q[9];\nint d(int digit) { noted = noted * 10 + digit; return digit; }\nint h(int a, int b, int c) { return a + b + c; }\n";
 
 #[test]
 fn order(rt: HostRuntime) -> Result<(), Fail> {
@@ -204,9 +255,13 @@ fn order(rt: HostRuntime) -> Result<(), Fail> {
         ("noted + d(5) + noted", "10 5"),
     ];
     for (expression, outcome) in table {
-        let program = format!(in alloc; "{NOTES}int main(int me, int n) {{ print({expression}, \" \", noted); }}")?;
-        let wanted = format!(in alloc; "P0: {outcome}\n")?;
-        assert_eq!(rt; written(alloc, program.as_str())?.bytes(), wanted.as_bytes(), "{expression}");
+        let parts = format!(in alloc; "{expression}, \" \", noted")?;
+        let found = printed(alloc, NOTES, parts.as_str())?;
+        assert_eq!(rt;
+            found.bytes(),
+            line(alloc, outcome)?.as_bytes(),
+            "{expression}"
+        );
     }
     let table = [
         ("x + (x = 5) + x", "10 5"),
@@ -216,9 +271,13 @@ fn order(rt: HostRuntime) -> Result<(), Fail> {
         ("x += x = 4", "4 4"),
     ];
     for (expression, outcome) in table {
-        let program = format!(in alloc; "shared int x; shared int a[2]; lock_t L; bind(L, x, 0, 1); lock_t M[2]; bindeach(M, a, 1);\nint main(int me, int n) {{ acquire(L); acquire(M[0]); acquire(M[1]); print({expression}, \" \", x); }}")?;
-        let wanted = format!(in alloc; "P0: {outcome}\n")?;
-        assert_eq!(rt; written(alloc, program.as_str())?.bytes(), wanted.as_bytes(), "{expression}");
+        let parts = format!(in alloc; "{expression}, \" \", x")?;
+        let found = printed(alloc, CELLS, parts.as_str())?;
+        assert_eq!(rt;
+            found.bytes(),
+            line(alloc, outcome)?.as_bytes(),
+            "{expression}"
+        );
     }
     Ok(())
 }
@@ -226,33 +285,56 @@ fn order(rt: HostRuntime) -> Result<(), Fail> {
 #[test]
 fn lines_of_faults(rt: HostRuntime) -> Result<(), Fail> {
     let alloc = rt.alloc();
-    let names = "shared int x; lock_t L; lock_t M[2]; bind(L, x, 0, 1); int q[2]; int f(int k) {\nreturn k ?\nf\n(k - 1) : 0; }\n";
     let table = [
         ("print(1\n/\n0);", "fault divzero line 6"),
-        ("int y;\ny\n+=\n9223372036854775807 +\n1;", "fault overflow line 8"),
-        ("int y = 1;\ny\n+=\n9223372036854775807;", "fault overflow line 7"),
-        ("int y = 9223372036854775807;\ny\n++;", "fault overflow line 7"),
-        ("int y = 9223372036854775807;\n++\ny;", "fault overflow line 6"),
-        ("int y = -9223372036854775807 - 1;\ny = 1 +\n-\ny;", "fault overflow line 7"),
+        (
+            "int y;\ny\n+=\n9223372036854775807 +\n1;",
+            "fault overflow line 8",
+        ),
+        (
+            "int y = 1;\ny\n+=\n9223372036854775807;",
+            "fault overflow line 7",
+        ),
+        (
+            "int y = 9223372036854775807;\ny\n++;",
+            "fault overflow line 7",
+        ),
+        (
+            "int y = 9223372036854775807;\n++\ny;",
+            "fault overflow line 6",
+        ),
+        (
+            "int y = -9223372036854775807 - 1;\ny = 1 +\n-\ny;",
+            "fault overflow line 7",
+        ),
         ("int y = 1;\ny\n<<=\n64;", "fault shift line 7"),
         ("print(1 +\nq\n[2]);", "fault index line 6"),
         ("acquire(\nM\n[2]);", "fault index line 6"),
         ("release(\nM\n[-1]);", "fault index line 6"),
         ("print(\nx\n);", "fault unbound line 6"),
         ("\nx\n=\n1;", "fault unbound line 6"),
-        ("acquire_shared(L); print(x); \nx\n= 1;", "0\nP0: fault unbound line 6"),
+        (
+            "acquire_shared(L); print(x); \nx\n= 1;",
+            "0\nP0: fault unbound line 6",
+        ),
         ("acquire(L); acquire(\nL);", "fault held line 6"),
-        ("acquire_shared(L); acquire_shared(\nL);", "fault held line 6"),
+        (
+            "acquire_shared(L); acquire_shared(\nL);",
+            "fault held line 6",
+        ),
         ("release(\nL\n);", "fault notheld line 6"),
         ("print(f(254)); print(f(255));", "0\nP0: fault depth line 3"),
     ];
     for (body, outcome) in table {
-        let program = format!(in alloc; "{names}int main(int me, int n) {{ {body} }}")?;
-        let wanted = format!(in alloc; "P0: {outcome}\n")?;
-        assert_eq!(rt; written(alloc, program.as_str())?.bytes(), wanted.as_bytes(), "{body}");
+        let found = done(alloc, FAULTY, body)?;
+        assert_eq!(rt; found.bytes(), line(alloc, outcome)?.as_bytes(), "{body}");
     }
-    let program = "int f(int k) { return k ? f(k - 1) : f(1 /\n0); }\nint main(int me, int n) { f(254); }";
-    assert_eq!(rt; written(alloc, program)?.bytes(), b"P0: fault divzero line 1\n");
+    let program =
+        "int f(int k) { return k ? f(k - 1) : f(1 /\n0); }\nint main(int me, int n) { f(254); }";
+    assert_eq!(rt;
+        written(alloc, program)?.bytes(),
+        b"P0: fault divzero line 1\n"
+    );
     Ok(())
 }
 
@@ -260,11 +342,26 @@ fn lines_of_faults(rt: HostRuntime) -> Result<(), Fail> {
 fn statements(rt: HostRuntime) -> Result<(), Fail> {
     let alloc = rt.alloc();
     let table = [
-        ("for (int i = 0; i < 3; i++) { int y; y++; print(i, y); }", "P0: 01\nP0: 11\nP0: 21\n"),
-        ("for (int i = 0; i < 2; i++) { int y = y + 1; print(y); }", "P0: 1\nP0: 2\n"),
-        ("int i = 5; while (i) { i--; if (i == 3) continue; if (i == 1) break; print(i); }", "P0: 4\nP0: 2\n"),
-        ("int i; for (; ; i++) { if (i == 1) continue; if (i > 2) break; print(i); }", "P0: 0\nP0: 2\n"),
-        ("if (0) print(1); else if (2) print(3); else print(4);", "P0: 3\n"),
+        (
+            "for (int i = 0; i < 3; i++) { int y; y++; print(i, y); }",
+            "P0: 01\nP0: 11\nP0: 21\n",
+        ),
+        (
+            "for (int i = 0; i < 2; i++) { int y = y + 1; print(y); }",
+            "P0: 1\nP0: 2\n",
+        ),
+        (
+            "int i = 5; while (i) { i--; if (i == 3) continue; if (i == 1) break; print(i); }",
+            "P0: 4\nP0: 2\n",
+        ),
+        (
+            "int i; for (; ; i++) { if (i == 1) continue; if (i > 2) break; print(i); }",
+            "P0: 0\nP0: 2\n",
+        ),
+        (
+            "if (0) print(1); else if (2) print(3); else print(4);",
+            "P0: 3\n",
+        ),
         ("if (0) print(1);", ""),
         ("print(nothing(7), early(1), early(0));", "P0: 012\n"),
         ("print(\"a\", -1, \"\", 2, \"b\");", "P0: a-12b\n"),
@@ -272,8 +369,11 @@ fn statements(rt: HostRuntime) -> Result<(), Fail> {
         ("print(me, n);", "P0: 02\n"),
     ];
     for (body, wanted) in table {
-        let program = format!(in alloc; "int nothing(int k) {{ k = 1; }} int early(int k) {{ if (k) return 1; return 2; }} int main(int me, int n) {{ {body} }}")?;
-        assert_eq!(rt; written(alloc, program.as_str())?.bytes(), wanted.as_bytes(), "{body}");
+        assert_eq!(rt;
+            done(alloc, FUNCTIONS, body)?.bytes(),
+            wanted.as_bytes(),
+            "{body}"
+        );
     }
     Ok(())
 }

@@ -39,8 +39,7 @@ const RING: &str =
     "shared int a[3];\nshared int b[3];\nbarrier_t B;\nbindb(B, a, 0, 1, 0, 0, 2);\nbindb(B, b, 0, 1, 0, 1, 2);\nbindb(B, a, 1, 1, 1, 0, 2);\nbindb(B, b, 1, 1, 1, 1, 2);\nbindb(B, a, 2, 1, 2, 0, 2);\nbindb(B, b, 2, 1, 2, 1, 2);\nint main(int me, int n) {\n  a[me] = me + 1;\n  barrier(B);\n  b[me] = a[(me + 1) % n] * 10;\n  barrier(B);\n  print(b[(me + 1) % n]);\n  return 0;\n}\n";
 
 /// Calls without end.
-const DEEP: &str =
-    "int f(int k) { return f(k + 1); }\nint main(int me, int n) { return f(0); }\n";
+const DEEP: &str = "int f(int k) { return f(k + 1); }\nint main(int me, int n) { return f(0); }\n";
 
 /// Files `prog` and `picks`.
 fn files(alloc: Global, program: &str, picks: &str) -> Result<MemFiles, Fail> {
@@ -68,10 +67,30 @@ fn checks_accept_or_refuse(rt: HostRuntime) -> Result<(), Fail> {
         (COUNTER, "2", 0, "ok\n"),
         (COUNTER, "16", 0, "ok\n"),
         (OWNED, "4", 0, "ok\n"),
-        (OPEN, "2", 3, "dsm: program refused: unexpected token, line 2\n"),
-        (OVERLAP, "2", 3, "dsm: program refused: cell 2 bound twice, line 4\n"),
-        (OWNED, "3", 3, "dsm: program refused: owner 3 with 3 processors\n"),
-        (LARGE, "2", 3, "dsm: program refused: literal too large, line 2\n"),
+        (
+            OPEN,
+            "2",
+            3,
+            "dsm: program refused: unexpected token, line 2\n",
+        ),
+        (
+            OVERLAP,
+            "2",
+            3,
+            "dsm: program refused: cell 2 bound twice, line 4\n",
+        ),
+        (
+            OWNED,
+            "3",
+            3,
+            "dsm: program refused: owner 3 with 3 processors\n",
+        ),
+        (
+            LARGE,
+            "2",
+            3,
+            "dsm: program refused: literal too large, line 2\n",
+        ),
         ("", "2", 3, "dsm: program refused: no main\n"),
         ("@", "2", 3, "dsm: program refused: bad byte, line 1\n"),
         // Words that aren't of the command.
@@ -131,7 +150,13 @@ fn runs_over_one_memory_print_their_lines(rt: HostRuntime) -> Result<(), Fail> {
         (RING, "procs 3\nall 10\n", 0, 30, "P0: 30\nP1: 10\nP2: 20\n"),
         // Without processor 2 nobody crosses.
         (RING, "procs 3\npick 0 9\npick 1 9\n", 2, 18, ""),
-        (DEEP, "procs 2\npick 0 256\n", 2, 256, "P0: fault depth line 1\n"),
+        (
+            DEEP,
+            "procs 2\npick 0 256\n",
+            2,
+            256,
+            "P0: fault depth line 1\n",
+        ),
         (DEEP, "procs 2\npick 0 255\n", 2, 255, ""),
     ] {
         let mut files = files(alloc, program, picks)?;
@@ -150,27 +175,119 @@ fn refusals_come_in_their_order(rt: HostRuntime) -> Result<(), Fail> {
     let alloc = rt.alloc();
     for (text, program, picks, status, message) in [
         ("", COUNTER, "procs 2\n", 5, "dsm: words refused\n"),
-        ("plain prog", COUNTER, "procs 2\n", 5, "dsm: words refused\n"),
-        ("plain prog picks picks", COUNTER, "procs 2\n", 5, "dsm: words refused\n"),
-        ("check prog picks", COUNTER, "procs 2\n", 5, "dsm: words refused\n"),
-        ("check --procs 2 prog", COUNTER, "procs 2\n", 5, "dsm: words refused\n"),
-        ("plain other picks", COUNTER, "procs 2\n", 6, "dsm: cannot read other\n"),
-        ("plain prog other", COUNTER, "procs 2\n", 6, "dsm: cannot read other\n"),
-        ("plain prog other", OPEN, "procs 2\n", 3, "dsm: program refused: unexpected token, line 2\n"),
-        ("check other --procs 2", COUNTER, "procs 2\n", 6, "dsm: cannot read other\n"),
-        ("plain prog picks", OPEN, "", 3, "dsm: program refused: unexpected token, line 2\n"),
-        ("plain prog picks", OWNED, "", 4, "dsm: schedule refused: no procs\n"),
-        ("plain prog picks", OWNED, "procs 3\n", 3, "dsm: program refused: owner 3 with 3 processors\n"),
+        (
+            "plain prog",
+            COUNTER,
+            "procs 2\n",
+            5,
+            "dsm: words refused\n",
+        ),
+        (
+            "plain prog picks picks",
+            COUNTER,
+            "procs 2\n",
+            5,
+            "dsm: words refused\n",
+        ),
+        (
+            "check prog picks",
+            COUNTER,
+            "procs 2\n",
+            5,
+            "dsm: words refused\n",
+        ),
+        (
+            "check --procs 2 prog",
+            COUNTER,
+            "procs 2\n",
+            5,
+            "dsm: words refused\n",
+        ),
+        (
+            "plain other picks",
+            COUNTER,
+            "procs 2\n",
+            6,
+            "dsm: cannot read other\n",
+        ),
+        (
+            "plain prog other",
+            COUNTER,
+            "procs 2\n",
+            6,
+            "dsm: cannot read other\n",
+        ),
+        (
+            "plain prog other",
+            OPEN,
+            "procs 2\n",
+            3,
+            "dsm: program refused: unexpected token, line 2\n",
+        ),
+        (
+            "check other --procs 2",
+            COUNTER,
+            "procs 2\n",
+            6,
+            "dsm: cannot read other\n",
+        ),
+        (
+            "plain prog picks",
+            OPEN,
+            "",
+            3,
+            "dsm: program refused: unexpected token, line 2\n",
+        ),
+        (
+            "plain prog picks",
+            OWNED,
+            "",
+            4,
+            "dsm: schedule refused: no procs\n",
+        ),
+        (
+            "plain prog picks",
+            OWNED,
+            "procs 3\n",
+            3,
+            "dsm: program refused: owner 3 with 3 processors\n",
+        ),
         ("plain prog picks", OWNED, "procs 4\n", 2, ""),
-        ("plain prog picks", COUNTER, "procs 2\nstep 0\n", 4, "dsm: schedule refused: bad entry, line 2\n"),
-        ("plain prog picks", COUNTER, "procs 2\npick 2\n", 4, "dsm: schedule refused: out of range, line 2\n"),
-        ("plain prog picks", COUNTER, "procs 2\nall 500000\n", 4, "dsm: schedule refused: too many units, 1000000\n"),
+        (
+            "plain prog picks",
+            COUNTER,
+            "procs 2\nstep 0\n",
+            4,
+            "dsm: schedule refused: bad entry, line 2\n",
+        ),
+        (
+            "plain prog picks",
+            COUNTER,
+            "procs 2\npick 2\n",
+            4,
+            "dsm: schedule refused: out of range, line 2\n",
+        ),
+        (
+            "plain prog picks",
+            COUNTER,
+            "procs 2\nall 500000\n",
+            4,
+            "dsm: schedule refused: too many units, 1000000\n",
+        ),
     ] {
         let mut files = files(alloc, program, picks)?;
         let mut sink = MemSink::new(alloc, 4096);
         let report = call(alloc, text, &mut files, &mut sink)?;
-        assert_eq!(rt; sink.bytes(), message.as_bytes(), "{text}, {program}, {picks}");
-        assert_eq!(rt; report.status.number(), status, "{text}, {program}, {picks}");
+        assert_eq!(rt;
+            sink.bytes(),
+            message.as_bytes(),
+            "{text}, {program}, {picks}"
+        );
+        assert_eq!(rt;
+            report.status.number(),
+            status,
+            "{text}, {program}, {picks}"
+        );
         assert_eq!(rt; report.units, 0, "{text}, {program}, {picks}");
     }
     Ok(())
@@ -182,10 +299,31 @@ fn failures_leave_a_part(rt: HostRuntime) -> Result<(), Fail> {
     for (text, kind, nth, status, units, left) in [
         ("plain prog picks", CallKind::Put, 1, 7, 6, ""),
         ("plain prog picks", CallKind::Put, 2, 7, 15, "P0: x=1\n"),
-        ("plain prog picks", CallKind::Read, 1, 6, 0, "dsm: cannot read prog\n"),
-        ("plain prog picks", CallKind::Read, 2, 6, 0, "dsm: cannot read picks\n"),
+        (
+            "plain prog picks",
+            CallKind::Read,
+            1,
+            6,
+            0,
+            "dsm: cannot read prog\n",
+        ),
+        (
+            "plain prog picks",
+            CallKind::Read,
+            2,
+            6,
+            0,
+            "dsm: cannot read picks\n",
+        ),
         ("check prog --procs 2", CallKind::Put, 1, 7, 0, ""),
-        ("check prog --procs 2", CallKind::Read, 1, 6, 0, "dsm: cannot read prog\n"),
+        (
+            "check prog --procs 2",
+            CallKind::Read,
+            1,
+            6,
+            0,
+            "dsm: cannot read prog\n",
+        ),
     ] {
         let mut files = files(alloc, COUNTER, "procs 2\npick 0 9\npick 1 9\n")?;
         let mut sink = MemSink::new(alloc, 4096);
