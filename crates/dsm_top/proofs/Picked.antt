@@ -1,7 +1,9 @@
 -- What one more pick leaves of a run in the code.
-use Rattle.std.specs.Prelude.{◌≡◌, ◌≤◌, ◌<◌, ◌+◌, ℕ, List, [], ◌∷◌, ◌++◌, length, take, Option, Some, None}
+use Rattle.std.specs.Prelude.{◌≡◌, ◌≤◌, ◌<◌, ◌+◌, ℕ, zero, suc, IsTrue, slice_get, List, [], ◌∷◌, ◌++◌, length, take, Option, Some, None}
 use Rattle.std.proofs.Common.{refl, sym, ap, ◌∙◌, arith, subst, append-nil}
 use Rattle.std.proofs.Math.ListN.{get_or}
+use Rattle.std.proofs.lemmas.List.{length-take-le}
+use Rattle.std.proofs.lemmas.Option.{slice_get_within, get_or_from_slice_get}
 use Rattle.dsm_base.specs.declared.names.Proc.{Proc}
 use Rattle.dsm_base.specs.declared.errors.ReadErr.{ReadErr}
 use Rattle.dsm_base.specs.declared.label.Label.{Label}
@@ -14,6 +16,8 @@ use Rattle.dsm_trace.specs.Processor.{ending_after}
 use Rattle.dsm_check.specs.Programs.{Program}
 use Rattle.dsm_check.specs.Semantics.{program_semantics}
 use Rattle.dsm_check.specs.SemanticsItems.{State}
+use Rattle.dsm_picks.specs.declared.picks.PickEntry.{PickEntry}
+use Rattle.dsm_picks.specs.Picks.{picked_by, is_picks}
 use Rattle.dsm_top.specs.declared.plain.PlainRun.{PlainRun}
 use Rattle.dsm_top.specs.Ended.{TakesFront}
 use Rattle.dsm_top.specs.PickRuns.{with_turn, first_states, program_run, endings_of}
@@ -21,7 +25,7 @@ use Rattle.dsm_top.specs.PlainRuns.{endings_in, program_in, IsAt, next_turns}
 use Rattle.dsm_top.specs.Runs.{WroteCut}
 use Rattle.dsm_top.specs.Stub.{machine_of, AreFew}
 use Rattle.dsm_top.proofs.Applied.{part_cut}
-use Rattle.dsm_top.proofs.Counts.{AreAtMost, few_numbers}
+use Rattle.dsm_top.proofs.Counts.{AreAtMost, few_numbers, few_picks}
 use Rattle.dsm_top.proofs.PickRuns.{next_is, next_pick, few_turns}
 use Rattle.dsm_top.proofs.Pieces.{part_of, next_taken}
 
@@ -34,12 +38,29 @@ few_at program setup run turns at few =
       arrived = λ p bar. omega (arith, numbers.arrived p bar, few);
     }
 
+-- nor behind the first picks of a list
+pub few_behind : (program : Program) (setup : Setup) (run : PlainRun) (procs : ℕ) (entries : List PickEntry) → IsTrue (is_picks procs entries) → run.units ≤ length (picked_by procs entries)
+    → IsAt program setup run (program_run program setup (take run.units (picked_by procs entries))) → AreFew (machine_of run.machine)
+few_behind program setup run procs entries kept within at =
+    let front = take run.units (picked_by procs entries) in
+    let all = few_picks procs entries kept in
+    let long = length-take-le run.units (picked_by procs entries) within in
+    let turns = few_turns setup (first_states program setup.procs) (program_semantics program.functions) front in
+    few_at program setup run (program_run program setup front) at (omega (arith, all, long, turns, within))
+
+-- a pick of a list, and the end of the list
+
+pub pick_at : {A : Type 0} → (items : List A) (index : ℕ) (item : A) → Some item ≡ slice_get items index → (index < length items) × (item ≡ get_or items index item)
+pick_at items index item is = (slice_get_within items index item (sym is), sym (get_or_from_slice_get items index item item (sym is)))
+
+pub pick_past : {A : Type 0} → (items : List A) (index : ℕ) → None ≡ slice_get items index → length items ≤ index
+pick_past [] index is = omega arith
+pick_past (item ∷ items) zero is = absurd (cc)
+pick_past (item ∷ items) (suc index) is = let past = pick_past items index is in omega (arith, past)
+
 -- a turn that was found is the one that is added, and what the parts of the run show of it
 module _ (program : Program) (setup : Setup) (old new : PlainRun) (turns : List Turn) (p : Proc) (at : IsAt program setup old turns)
     (same_program : program_in new ≡ program_in old) (same_setup : new.machine.setup ≡ old.machine.setup) (count : length new.endings.list.items ≡ length old.endings.list.items) where
-  abbrev threads : _
-  threads = program_semantics program.functions
-
   added : (found : Option Label) → plain_turn old.machine.setup (program_semantics (program_in old).functions) (machine_of old.machine) p.0 ≡ found → next_turns program setup turns p ≡ with_turn turns p.0 found
   added found is =
       let here : plain_turn setup (program_semantics program.functions) (machine_of old.machine) p.0 ≡ found =
