@@ -28,7 +28,7 @@ member_below bound array (pos i) number within is =
     let found = if_found (nat_lt i array.size) (array.first + i) number is in omega (arith, ltb-true i array.size found.0, found.1)
 member_below bound array (negsuc i) number within is = cc (is)
 
-body_within : (extent : Extent) (functions : List r.Function) (number : ℕ) → AreFunctionsWithin extent functions
+pub body_within : (extent : Extent) (functions : List r.Function) (number : ℕ) → AreFunctionsWithin extent functions
     → AreStatementsWithin extent (numbered (slice_get functions number)).body
 body_within extent [] number within = tt
 body_within extent (function ∷ rest) zero within = within.0

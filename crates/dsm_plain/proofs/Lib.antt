@@ -1,4 +1,9 @@
-pub mod Values
-pub mod Tops
-pub mod Moves
-pub mod Finishing
+pub mod Families
+pub mod Outcomes
+pub mod Extents
+pub mod States
+pub mod Lists
+pub mod Turns
+pub mod Waits
+pub mod Completions
+pub mod Counts

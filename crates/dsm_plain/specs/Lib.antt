@@ -1,3 +1,3 @@
-pub mod Threads
-pub mod Sound
-pub mod Finished
+pub mod Labels
+pub mod Waiting
+pub mod Machine

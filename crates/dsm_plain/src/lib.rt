@@ -1,16 +1,13 @@
 //! The machine of one memory, over programs with every name resolved.
 #![tactic(auto)]
 
-mod call;
-mod expression;
-mod finish;
-mod frame;
-mod item;
-mod location;
-mod lock;
-mod thread;
-mod print;
-mod stack;
-mod statement;
-mod step;
-mod value;
+mod access;
+mod machine;
+mod standing;
+mod start;
+mod turn;
+mod waiting;
+
+pub use machine::Plain;
+pub use standing::Standing;
+pub use waiting::{Holder, Holders, Picked, Procs};

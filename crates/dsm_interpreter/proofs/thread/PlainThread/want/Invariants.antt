@@ -1,0 +1,16 @@
+use Rattle.std.proofs.Common.{◌≡◌, List}
+use Rattle.dsm_check.specs.Resolved as r
+use Rattle.dsm_check.specs.Semantics.{ready}
+use Rattle.dsm_check.specs.SemanticsWeights.{weight}
+use Rattle.dsm_check.specs.SemanticsWithin.{Extent, IsStateWithin}
+use Rattle.dsm_interpreter.specs.Threads.{state_of}
+use Rattle.dsm_interpreter.proofs.thread.PlainThread.want.Given as goal
+
+abbrev pub invariant-steps : goal.invariant-steps
+invariant-steps l = record {
+  same : (functions : List r.Function) → ready functions (state_of l.self) ≡ ready functions (state_of l.fn.self);
+  within : (extent : Extent) → IsStateWithin extent (state_of l.fn.self) → IsStateWithin extent (state_of l.self);
+}
+
+abbrev pub decreases-steps : goal.decreases-steps
+decreases-steps l = weight (state_of l.self).todo

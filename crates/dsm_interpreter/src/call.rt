@@ -1,0 +1,141 @@
+//! Calls and returns.
+
+ghost use Rattle.std.specs.Prelude.{◌≡◌, ℤ, [], ◌∷◌, map, slice_get, OnOk, OnSome, IfOk, Some};
+ghost use Rattle.dsm_check.specs.Views.{view_function};
+ghost use Rattle.dsm_check.specs.SemanticsSteps.{next_of};
+ghost use Rattle.dsm_check.specs.Semantics;
+ghost use Rattle.dsm_check.specs.Resolved as r;
+ghost use Rattle.dsm_check.specs.Semantics.{numbered};
+ghost use Rattle.dsm_check.specs.SemanticsItems.{run, over};
+ghost use Rattle.dsm_interpreter.specs.Finished.{return_finished};
+ghost use Rattle.dsm_interpreter.specs.Threads.{Makes, callee_of, state_of, frame_of, life_of};
+
+use crate::frame::{Frame, Life};
+use crate::item::Item;
+use crate::stack::Stack;
+use crate::thread::PlainThread;
+use dsm_base::{Fault, MemFault, Want};
+use dsm_check::{Function, Statement};
+use std::alloc::Global;
+use std::mem;
+
+/// As many functions may be under way.
+const MOST_DEPTH: usize = 256;
+
+/// A function that is called.
+#[derive(Clone, Copy)]
+pub struct Callee<'a> {
+    pub params: u8,
+    pub slots: u8,
+    pub body: &'a [Statement],
+}
+
+/// The function of a number; each number in a program is that of a function.
+pub fn callee_at<'a>(functions: &'a [Function], number: u16) -> Callee<'a>
+    ensures { callee_of result ≡ numbered (slice_get (map view_function functions.now) number) }
+{
+    match functions.get(usize::from(number)) {
+        Some(function) => Callee {
+            params: function.params,
+            slots: function.slots,
+            body: function.body.as_slice(),
+        },
+        None => Callee {
+            params: 0,
+            slots: 0,
+            body: &[],
+        },
+    }
+}
+
+/// The slots of a function that is entered: its arguments, and zeros.
+pub fn new_slots(alloc: Global, callee: Callee<'_>, arguments: &[i64]) -> Result<Vec<i64>, MemFault>
+    ensures { IfOk result (λ slots. slots.items ≡ Semantics.new_slots (callee_of callee.entry) arguments.now) }
+{
+    let mut slots = Vec::from_slice(alloc, arguments)?;
+    let missing = usize::from(callee.slots).saturating_sub(arguments.len());
+    for _ in 0..missing {
+        slots.push(0)?;
+    }
+    Ok(slots)
+}
+
+/// The frame of a function that is entered.
+pub fn new_frame<'a>(
+    alloc: Global,
+    callee: Callee<'a>,
+    arguments: &[i64],
+) -> Result<Frame<'a>, MemFault>
+    ensures { IfOk result (λ frame. frame_of frame ≡ record { todo = run (callee_of callee.entry).body ∷ []; operands = []; slots = Semantics.new_slots (callee_of callee.entry) arguments.now }) }
+{
+    let mut todo = Stack::new(alloc);
+    todo.push(Item::Run(callee.body))?;
+    Ok(Frame {
+        todo,
+        operands: Stack::new(alloc),
+        slots: new_slots(alloc, callee, arguments)?,
+    })
+}
+
+impl<'a> PlainThread<'a> {
+    /// Wants to enter a function, where it isn't one too many.
+    pub fn enter(&self, line: u32) -> Want
+        ensures { (function : r.Function) → Makes (Semantics.entering (state_of self.now) line function) (state_of self.now) (state_of self.now) (Some result) }
+    {
+        if self.outer.len() < MOST_DEPTH - 1 {
+            Want::Quiet
+        } else {
+            Want::Stop(Fault::Depth, line)
+        }
+    }
+
+    /// Enters the function of a number.
+    pub fn finish_enter(&mut self, functions: &'a [Function], number: u16) -> Result<(), MemFault>
+        ensures { OnOk result (state_of self.new ≡ Semantics.entered (state_of self.old) (numbered (slice_get (map view_function functions.now) number))) }
+    {
+        let callee = callee_at(functions, number);
+        let count = usize::from(callee.params);
+        let frame = new_frame(self.alloc, callee, self.frame.operands.topmost(count))?;
+        self.frame.operands.drop_topmost(count);
+        let caller = mem::replace(&mut self.frame, frame);
+        self.outer.push(caller)
+    }
+
+    /// Wants to leave the innermost function.
+    pub fn leave(&self) -> Want
+        ensures { (value : ℤ) → Makes (Semantics.returns (state_of self.now) value (state_of self.now).outer) (state_of self.now) (state_of self.now) (Some result) }
+    {
+        if self.outer.len() == 0 {
+            Want::End
+        } else {
+            Want::Quiet
+        }
+    }
+
+    /// Leaves the innermost function with a value; where it is main, the thread has ended.
+    pub fn finish_leave(&mut self, value: i64) -> Result<(), MemFault>
+        ensures { OnOk result (state_of self.new ≡ return_finished (state_of self.old) value (state_of self.old).outer) }
+    {
+        match self.outer.pop() {
+            None => {
+                self.end(Life::Ended);
+                Ok(())
+            }
+            Some(caller) => {
+                self.frame = caller;
+                self.frame.operands.push(value)
+            }
+        }
+    }
+
+    /// The thread is over; only its private cells are left.
+    pub fn end(&mut self, life: Life)
+        ensures { state_of self.new ≡ over (state_of self.old) (life_of life) }
+    {
+        self.frame.todo.clear();
+        self.frame.operands.clear();
+        self.frame.slots.clear();
+        self.outer.clear();
+        self.life = life;
+    }
+}

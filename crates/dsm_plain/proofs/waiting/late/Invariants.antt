@@ -1,0 +1,7 @@
+use Rattle.std.proofs.Common.{◌≡◌}
+use Rattle.dsm_plain.specs.Machine.{arrived_of, standing_at}
+use Rattle.dsm_plain.specs.Waiting.{late}
+use Rattle.dsm_plain.proofs.waiting.late.Given as goal
+
+abbrev pub invariant-loop-at : goal.invariant-loop-at
+invariant-loop-at l = l.procs ≡ late l.at (λ p. arrived_of (standing_at l.standings p)) l.epoch l.bar.0
