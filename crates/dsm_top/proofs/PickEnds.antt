@@ -14,7 +14,7 @@ use Rattle.dsm_top.specs.declared.plain.PlainRun.{PlainRun}
 use Rattle.dsm_top.specs.declared.status.Status.{Status}
 use Rattle.dsm_top.specs.Ended.{Left, TakesFront, IsPlainRun, PlainWhole, RanPlain, status_of}
 use Rattle.dsm_top.specs.PickRuns.{program_run, endings_of}
-use Rattle.dsm_top.specs.PlainRuns.{endings_in, IsAt}
+use Rattle.dsm_top.specs.PlainRuns.{endings_in, IsWholeRun, IsAt}
 
 module _ (program : Program) (procs : ℕ) (setup : Setup) (is_setup : IsSetupOf program procs setup) (picks : List Proc) (left : Left) (within : left.units ≤ length picks) where
   is_run : IsPlainRun program procs picks left.units (program_run program setup (take left.units picks))
@@ -25,13 +25,13 @@ module _ (program : Program) (procs : ℕ) (setup : Setup) (is_setup : IsSetupOf
   by_status Finished.Stopped ran = ran
   by_status Finished.Unfinished ran = ran
 
-  pub plain_whole : (run : PlainRun) (finished : Finished) → finished ≡ finished_by (length run.endings.list.items) (endings_in run.endings) → IsAt program setup run (program_run program setup (take left.units picks))
+  pub plain_whole : (run : PlainRun) (finished : Finished) → finished ≡ finished_by (length run.endings.list.items) (endings_in run.endings) → IsWholeRun run → IsAt program setup run (program_run program setup (take left.units picks))
       → left.units ≡ length picks → left.after ≡ appended left.before (printed_lines (program_run program setup (take left.units picks))) → RanPlain program procs picks left (status_of finished)
-  plain_whole run finished is at all wrote = by_status finished record {
+  plain_whole run finished is whole at all wrote = by_status finished record {
     turns = program_run program setup (take left.units picks);
     is_run = is_run;
     all = all;
-    stands = sym (is ∙ (λ i. finished_by ((at.count ∙ is_setup.procs) i) (at.endings i)));
+    stands = sym (is ∙ (λ i. finished_by ((whole.endings ∙ (ap (λ (s : Setup). s.procs) at.setup_is ∙ is_setup.procs)) i) (at.endings i)));
     wrote = wrote;
   }
 

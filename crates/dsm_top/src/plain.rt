@@ -19,19 +19,19 @@ ghost use Rattle.dsm_top.specs.Ended.{RanPlain};
 ghost use Rattle.dsm_top.specs.PickRuns.{endings_of, program_run};
 ghost use Rattle.dsm_top.specs.Prepared.{CanPick};
 ghost use Rattle.dsm_top.specs.Runs.{WroteCut};
-ghost use Rattle.dsm_top.specs.Stub.{machine_of, AreFew, IsWhole};
-ghost use Rattle.dsm_top.specs.PlainRuns.{endings_in, program_in, next_turns, IsAt};
+ghost use Rattle.dsm_plain.specs.Machine.{machine_of};
+ghost use Rattle.dsm_top.specs.PlainRuns.{endings_in, program_in, next_turns, IsWholeRun, IsAt};
 
 use crate::message::Line;
 use crate::output::put_all;
 use crate::prepare::PickRun;
 use crate::run::status_of;
 use crate::status::{Report, Status};
-use crate::stub::{Picked, Plain};
 use crate::turn::turn_line;
 use dsm_base::{Ending, Label, MemFault, Proc, ReadErr, Sink};
 use dsm_check::Checked;
 use dsm_picks::Picks;
+use dsm_plain::{Picked, Plain};
 use dsm_world::Finished;
 use std::alloc::Global;
 
@@ -111,7 +111,7 @@ impl<'a> PlainRun<'a> {
         requires fits { fitting (program_of program.now) procs ≡ Ok tt }
         ensures setup { IfOk result (λ run. IsSetupOf (program_of program.now) procs run.machine.setup) }
         ensures at { IfOk result (λ run. IsAt (program_of program.now) run.machine.setup run []) }
-        ensures whole { IfOk result (λ run. IsWhole run.machine) }
+        ensures whole { IfOk result IsWholeRun }
         ensures units { IfOk result (λ run. run.units ≡ 0) }
     {
         Ok(PlainRun {
@@ -123,14 +123,12 @@ impl<'a> PlainRun<'a> {
 
     /// Applies a pick, and gives the line that it prints, if any. For want of memory no pick is counted.
     fn pick(&mut self, alloc: Global, proc: Proc) -> Result<Line, MemFault>
-        requires whole { IsWhole self.old.machine }
+        requires whole { IsWholeRun self.old }
         requires processor { proc.0 < self.old.machine.setup.procs }
-        requires endings { length self.old.endings.list.items ≡ self.old.machine.setup.procs }
-        requires few { AreFew (machine_of self.old.machine) }
         requires count { self.old.units < 500000 }
         ensures at { (program : Program) (setup : Setup) (turns : List Turn) → IsAt program setup self.old turns → OnOk result (IsAt program setup self.new (next_turns program setup turns proc)) }
         ensures line { (program : Program) (setup : Setup) (turns : List Turn) → IsAt program setup self.old turns → IfOk result (λ line. printed_lines (next_turns program setup turns proc) ≡ printed_lines turns ++ line) }
-        ensures whole { OnOk result (IsWhole self.new.machine) }
+        ensures whole { OnOk result (IsWholeRun self.new) }
         ensures units { OnOk result (self.new.units ≡ self.old.units + 1) }
         ensures err { IfErr result (λ _. self.new.units ≡ self.old.units) }
     {
@@ -154,12 +152,13 @@ fn apply_picks<K: Sink>(
     picks: &Picks,
     out: &mut K,
 ) -> Result<(), ReadErr>
-    requires whole { IsWhole run.old.machine }
+    requires whole { IsWholeRun run.old }
     requires at { IsAt (program_in run.old) run.old.machine.setup run.old [] }
     requires procs { run.old.machine.setup.procs ≡ picks.now.procs }
     requires no_units { run.old.units ≡ 0 }
     ensures count { run.new.units ≤ length (picked picks.now) }
     ensures all { OnOk result (run.new.units ≡ length (picked picks.now)) }
+    ensures whole { OnOk result (IsWholeRun run.new) }
     ensures at { OnOk result (IsAt (program_in run.old) run.old.machine.setup run.new (program_run (program_in run.old) run.old.machine.setup (take run.new.units (picked picks.now)))) }
     ensures wrote { OnOk result (K.sink_holds out.new ≡ appended (K.sink_holds out.old) (printed_lines (program_run (program_in run.old) run.old.machine.setup (take run.new.units (picked picks.now))))) }
     ensures cut { IfErr result (WroteCut (K.sink_holds out.old) (K.sink_holds out.new) (printed_lines (program_run (program_in run.old) run.old.machine.setup (take run.new.units (picked picks.now))))) }

@@ -7,13 +7,8 @@ use Rattle.dsm_top.specs.PickRuns.{program_run}
 use Rattle.dsm_top.specs.PlainRuns.{program_in, IsAt}
 use Rattle.dsm_top.proofs.Applied.{front_whole}
 use Rattle.dsm_top.proofs.Counts.{few_picks}
-use Rattle.dsm_top.proofs.Picked.{few_behind, pick_at, pick_past, more_turns, wrote_more, wrote_cut}
+use Rattle.dsm_top.proofs.Picked.{pick_at, pick_past, more_turns, wrote_more, wrote_cut}
 use Rattle.dsm_top.proofs.plain.apply_picks.Goals as goal
-
-pub pick-requires-in-Some-clause-few : goal.pick-requires-in-Some-clause-few
-pick-requires-in-Some-clause-few g c =
-    let picks = c.args.picks.now in
-    few_behind (program_in c.args.run.now) c.args.run.now.machine.setup c.picks.run picks.procs picks.entries picks.kept c.picks.invariant.within c.picks.invariant.at
 
 pub pick-requires-in-Some-clause-count : goal.pick-requires-in-Some-clause-count
 pick-requires-in-Some-clause-count g c =

@@ -32,7 +32,7 @@ returns-clause-ran g c =
     let as_prepared = λ (status : Status) (ran : RanPlain program procs picks left status). subst (λ one. RanPlain one procs picks left status) same ran in
     rw c.untraced-2.ensures (inr (elim c.match-apply_picks.branch [
       | in-Ok-apply_picks w ↦
-          let ran = plain_whole program procs setup is_setup picks left within run w.finished.result w.finished.ensures w.in-Ok-apply_picks.ensures.at w.in-Ok-apply_picks.ensures.all w.in-Ok-apply_picks.ensures.wrote in
+          let ran = plain_whole program procs setup is_setup picks left within run w.finished.result w.finished.ensures w.in-Ok-apply_picks.ensures.whole w.in-Ok-apply_picks.ensures.at w.in-Ok-apply_picks.ensures.all w.in-Ok-apply_picks.ensures.wrote in
           rw (w.status-is, w.status_of-status.ensures) (as_prepared (status_of w.finished.result) ran)
       | in-Err-Failed w ↦
           let ran = plain_cut program procs setup is_setup picks left within (rw (w.in-Err-Failed.field-0-is) at w.in-Err-Failed.ensures.cut) (rw (w.in-Err-Failed.field-0-is) at w.in-Err-Failed.ensures.cause.rose) in
