@@ -1,15 +1,21 @@
 -- What a refusal leaves.
-use Rattle.std.specs.Prelude.{◌≡◌, ℕ, true, false, if◌then◌else◌, List, [], reverse, Option, Some, None}
+use Rattle.std.specs.Prelude.{◌≡◌, ◌⊎◌, ℕ, true, false, if◌then◌else◌, List, [], reverse, Option, Some, None}
 use Rattle.std.proofs.Common.{refl, sym, ap, ◌∙◌, subst, inl, inr}
 use Rattle.dsm_base.specs.Causes.{Rose}
 use Rattle.dsm_base.specs.Sink.{appended, TakesPart}
 use Rattle.dsm_top.specs.declared.status.Status.{Status}
 use Rattle.dsm_top.specs.declared.status.Report.{Report}
+use Rattle.dsm_top.specs.declared.prepare.Prepared.{Prepared}
+use Rattle.dsm_top.specs.declared.prepare.SmallRun.{SmallRun}
+use Rattle.dsm_top.specs.declared.prepare.PickRun.{PickRun}
+use Rattle.dsm_check.specs.CheckedViews.{program_of}
 use Rattle.dsm_check.specs.Programs.{Program}
+use Rattle.dsm_picks.specs.Entries.{picked}
 use Rattle.dsm_top.specs.Command.{Command, run, check, plain}
 use Rattle.dsm_top.specs.Messages.{message_of, message_line, refusal_text, is_refusal}
 use Rattle.dsm_top.specs.Refusals.{Given, RefusesRun, RefusesProgram, RefusesPicks, RefusesOwner, RefusesCommand, Refuses, RefusesOrMemory}
-use Rattle.dsm_top.specs.Ended.{Left, RefusedWhole, RefusedBy, RefusedCut, RefusedShort, Ended}
+use Rattle.dsm_top.specs.Prepared.{IsPrepared}
+use Rattle.dsm_top.specs.Ended.{Left, Ran, Checked, RanPlain, RefusedWhole, RefusedBy, RefusedCut, RefusedShort, EndedCommand, Ended}
 
 -- a refusal that is no want of memory has a cause
 refuses : (given : Given) (status : Status) → (status ≡ Status.Memory → ⊥) → RefusesOrMemory given status → Refuses given status
@@ -95,3 +101,41 @@ pub ended_refused : (given : Given) (before after : Option (List ℕ)) (faults_b
 ended_refused given before after faults_before faults_after report status is refused =
     subst (λ one. Ended given record { before = before; after = after; faults_before = faults_before; faults_after = faults_after; trace = reverse one.trace; units = one.units } one.status) (sym is)
     (inl record { no_trace = refl; no_units = refl; refused = refused })
+
+-- What a command that was prepared leaves.
+
+command_run : (given : Given) (prepared : SmallRun) (left : Left) (status : Status) (command : Option Command) → IsPrepared given.files command (Prepared.Run prepared) → Ran prepared.program prepared.schedule.units left status
+    → EndedCommand given left status command
+command_run given prepared left status (Some (run program schedule)) is ran = record { small = prepared.program; units = prepared.schedule.units; accepted = is; ran = ran }
+command_run given prepared left status _ is ran = absurd is
+
+pub ended_run : (given : Given) (prepared : SmallRun) (left : Left) (status : Status) → IsPrepared given.files given.command (Prepared.Run prepared) → Ran prepared.program prepared.schedule.units left status → Ended given left status
+ended_run given prepared left status is ran = inr (command_run given prepared left status given.command is ran)
+
+command_check : (given : Given) (left : Left) (status : Status) (command : Option Command) → IsPrepared given.files command Prepared.Check → left.trace ≡ [] → left.units ≡ 0 → Checked left status → EndedCommand given left status command
+command_check given left status (Some (check program procs)) is no_trace no_units checked =
+    record { found = is.0; accepted = is.1; no_trace = no_trace; no_units = no_units; checked = checked }
+command_check given left status _ is no_trace no_units checked = absurd is
+
+pub ended_check : (given : Given) (left : Left) (status : Status) → IsPrepared given.files given.command Prepared.Check → left.trace ≡ [] → left.units ≡ 0 → Checked left status → Ended given left status
+ended_check given left status is no_trace no_units checked = inr (command_check given left status given.command is no_trace no_units checked)
+
+command_plain : (given : Given) (prepared : PickRun) (left : Left) (status : Status) (command : Option Command) → IsPrepared given.files command (Prepared.Plain prepared) → left.trace ≡ []
+    → RanPlain (program_of prepared.program) prepared.picks.procs (picked prepared.picks) left status → EndedCommand given left status command
+command_plain given prepared left status (Some (plain program picks)) is no_trace ran = record {
+  found = program_of prepared.program;
+  procs = prepared.picks.procs;
+  entries = prepared.picks.entries;
+  accepted = is.0;
+  has_picks = is.1;
+  no_trace = no_trace;
+  ran = ran;
+}
+command_plain given prepared left status _ is no_trace ran = absurd is
+
+-- nothing was applied for want of memory, or picks were
+pub ended_plain : (given : Given) (prepared : PickRun) (left : Left) (status : Status) → IsPrepared given.files given.command (Prepared.Plain prepared) → left.trace ≡ []
+    → ((status ≡ Status.Memory) × (left.units ≡ 0) × (left.after ≡ left.before)) ⊎ RanPlain (program_of prepared.program) prepared.picks.procs (picked prepared.picks) left status → Ended given left status
+ended_plain given prepared left status is no_trace (inl none) =
+    subst (Ended given left) (sym none.0) (inl record { no_trace = no_trace; no_units = none.1; refused = record { wrote = inl none.2 } })
+ended_plain given prepared left status is no_trace (inr ran) = inr (command_plain given prepared left status given.command is no_trace ran)

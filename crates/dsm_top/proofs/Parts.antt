@@ -6,6 +6,7 @@ use Rattle.dsm_check.specs.Programs.{Program}
 use Rattle.dsm_picks.specs.declared.picks.PickEntry.{PickEntry}
 use Rattle.dsm_small.specs.declared.tree.SmallProgram.{SmallProgram}
 use Rattle.dsm_top.specs.declared.status.Status.{Status}
+use Rattle.dsm_top.specs.Command.{Command}
 use Rattle.dsm_top.specs.Accepted.{Contents, HasProgram, HasChecked, HasPicks}
 use Rattle.dsm_top.specs.Refusals.{Given, FilesRose, RefusesRun, RefusesProgram, RefusesPicks, RefusesOwner, RefusesCheck, RefusesPlain, OrMemory}
 use Rattle.dsm_top.specs.Prepared.{IsUnread, IsPart}
@@ -85,3 +86,7 @@ pub plain_owner : (given : Given) (program picks : List ℕ) (found : Program) (
     → OrMemory (RefusesPlain given program picks) status
 plain_owner given program picks found procs entries status has has_picks is =
     or_memory (RefusesPlain given program picks) status (inr (found, has, inr record { procs = procs; entries = entries; has_picks = has_picks; refused = is }))
+
+-- the whole call is a part of itself
+pub whole_part : (command : Option Command) (files : Contents) (before after : ℕ) → IsPart record { command = command; files = files; faults_before = before; faults_after = after } files before after
+whole_part command files before after = record { same = refl; earlier = omega arith; later = omega arith }

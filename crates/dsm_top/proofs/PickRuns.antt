@@ -24,20 +24,6 @@ module _ {S : Type 0} (setup : Setup) (first : ℕ → S) (threads : Semantics S
   next_pick picks units p is inside =
       fold_more (with_pick setup first threads) [] picks units p inside ∙ ap (with_pick setup first threads (run_by_picks setup first threads (take units picks))) (sym is)
 
-  one_turn : (turns : List Turn) (p : ℕ) (found : Option Label) → length (with_turn turns p found) ≤ length turns + 1
-  one_turn turns p None = omega arith
-  one_turn turns p (Some label) = omega arith
-
-  turns_from : (turns : List Turn) (picks : List Proc) → length (fold (with_pick setup first threads) turns picks) ≤ length turns + length picks
-  turns_from turns [] = omega arith
-  turns_from turns (p ∷ picks) =
-      let next = with_pick setup first threads turns p in
-      omega (arith, turns_from next picks, one_turn turns p.0 (plain_turn setup threads (after_run first threads turns) p.0))
-
-  -- a run has no more turns than picks
-  pub few_turns : (picks : List Proc) → length (run_by_picks setup first threads picks) ≤ length picks
-  few_turns picks = omega (arith, turns_from [] picks)
-
 -- what one more turn prints
 pub next_line : (turns : List Turn) (p : ℕ) (label : Label) → printed_lines (with_turn turns p (Some label)) ≡ printed_lines turns ++ printed_of p (line_text label)
 next_line turns p label = refl

@@ -1,14 +1,16 @@
 -- What one more pick leaves of a run in the code.
-use Rattle.std.specs.Prelude.{◌≡◌, ◌≤◌, ◌<◌, ◌+◌, ℕ, List, [], ◌∷◌, ◌++◌, length, take, Option, Some, None}
+use Rattle.std.specs.Prelude.{◌≡◌, ◌≤◌, ◌<◌, ◌+◌, ℕ, zero, suc, IsTrue, slice_get, List, [], ◌∷◌, ◌++◌, length, take, Option, Some, None}
 use Rattle.std.proofs.Common.{refl, sym, ap, ◌∙◌, arith, subst, append-nil}
 use Rattle.std.proofs.Math.ListN.{get_or}
+use Rattle.std.proofs.lemmas.Option.{slice_get_within, get_or_from_slice_get}
 use Rattle.dsm_base.specs.declared.names.Proc.{Proc}
 use Rattle.dsm_base.specs.declared.errors.ReadErr.{ReadErr}
 use Rattle.dsm_base.specs.declared.label.Label.{Label}
 use Rattle.dsm_base.specs.declared.setup.Setup.{Setup}
 use Rattle.dsm_base.specs.Family.{update}
 use Rattle.dsm_base.specs.Output.{line_text, printed_of, printed_lines}
-use Rattle.dsm_base.specs.Plain.{Turn, PlainState, plain_turn, plain_after, after_run}
+use Rattle.dsm_base.specs.Plain.{Turn, PlainState, plain_start, plain_turn, plain_after, after_run}
+use Rattle.dsm_base.specs.Threads.{Semantics}
 use Rattle.dsm_base.specs.Sink.{appended, TakesPart}
 use Rattle.dsm_trace.specs.Processor.{ending_after}
 use Rattle.dsm_check.specs.Programs.{Program}
@@ -16,30 +18,41 @@ use Rattle.dsm_check.specs.Semantics.{program_semantics}
 use Rattle.dsm_check.specs.SemanticsItems.{State}
 use Rattle.dsm_top.specs.declared.plain.PlainRun.{PlainRun}
 use Rattle.dsm_top.specs.Ended.{TakesFront}
-use Rattle.dsm_top.specs.PickRuns.{with_turn, first_states, program_run, endings_of}
+use Rattle.dsm_plain.specs.Machine.{machine_of, first_states, AreBelow}
+use Rattle.dsm_plain.specs.declared.waiting.Picked.{Picked}
+use Rattle.dsm_plain.specs.Waiting.{IsPick}
+use Rattle.dsm_top.specs.PickRuns.{with_turn, program_run, endings_of}
 use Rattle.dsm_top.specs.PlainRuns.{endings_in, program_in, IsAt, next_turns}
 use Rattle.dsm_top.specs.Runs.{WroteCut}
-use Rattle.dsm_top.specs.Stub.{machine_of, AreFew}
 use Rattle.dsm_top.proofs.Applied.{part_cut}
-use Rattle.dsm_top.proofs.Counts.{AreAtMost, few_numbers}
-use Rattle.dsm_top.proofs.PickRuns.{next_is, next_pick, few_turns}
+use Rattle.dsm_top.proofs.PickRuns.{next_is, next_pick}
 use Rattle.dsm_top.proofs.Pieces.{part_of, next_taken}
 
--- no number in a machine is too great behind so few turns
-pub few_at : (program : Program) (setup : Setup) (run : PlainRun) (turns : List Turn) → IsAt program setup run turns → length turns ≤ 500000 → AreFew (machine_of run.machine)
-few_at program setup run turns at few =
-    let numbers : AreAtMost (length turns) (machine_of run.machine) = subst (AreAtMost (length turns)) (sym at.machine) (few_numbers (first_states program setup.procs) (program_semantics program.functions) turns) in
-    record {
-      versions = λ lock. omega (arith, numbers.versions lock, few);
-      arrived = λ p bar. omega (arith, numbers.arrived p bar, few);
-    }
+-- a machine before its first turn has no counts
+pub start_below : (first : ℕ → State) (s : PlainState State) → s ≡ plain_start first → AreBelow 1 s
+start_below first s is = subst (AreBelow 1) (sym is) record { versions = λ lock. omega arith; arrived = λ p bar. omega arith }
+
+-- a pick that is no turn leaves the machine as it was
+pub no_turn : (setup : Setup) (threads : Semantics State) (old : PlainState State) (p : ℕ) (new : PlainState State) (picked : Picked) → ((label : Label) → picked ≡ Picked.Did label → ⊥) → IsPick setup threads old p new picked
+    → (plain_turn setup threads old p ≡ None) × (new ≡ old)
+no_turn setup threads old p new (Picked.Did label) other is = absurd (other label refl)
+no_turn setup threads old p new (Picked.Blocked holders) other is = (is.0, is.1)
+no_turn setup threads old p new (Picked.Missing procs) other is = (is.0, is.1)
+no_turn setup threads old p new Picked.Over other is = (is.0, is.1)
+
+-- a pick of a list, and the end of the list
+
+pub pick_at : {A : Type 0} → (items : List A) (index : ℕ) (item : A) → Some item ≡ slice_get items index → (index < length items) × (item ≡ get_or items index item)
+pick_at items index item is = (slice_get_within items index item (sym is), sym (get_or_from_slice_get items index item item (sym is)))
+
+pub pick_past : {A : Type 0} → (items : List A) (index : ℕ) → None ≡ slice_get items index → length items ≤ index
+pick_past [] index is = omega arith
+pick_past (item ∷ items) zero is = absurd (cc)
+pick_past (item ∷ items) (suc index) is = let past = pick_past items index is in omega (arith, past)
 
 -- a turn that was found is the one that is added, and what the parts of the run show of it
 module _ (program : Program) (setup : Setup) (old new : PlainRun) (turns : List Turn) (p : Proc) (at : IsAt program setup old turns)
-    (same_program : program_in new ≡ program_in old) (same_setup : new.machine.setup ≡ old.machine.setup) (count : length new.endings.list.items ≡ length old.endings.list.items) where
-  abbrev threads : _
-  threads = program_semantics program.functions
-
+    (same_program : program_in new ≡ program_in old) (same_setup : new.machine.setup ≡ old.machine.setup) where
   added : (found : Option Label) → plain_turn old.machine.setup (program_semantics (program_in old).functions) (machine_of old.machine) p.0 ≡ found → next_turns program setup turns p ≡ with_turn turns p.0 found
   added found is =
       let here : plain_turn setup (program_semantics program.functions) (machine_of old.machine) p.0 ≡ found =
@@ -55,7 +68,6 @@ module _ (program : Program) (setup : Setup) (old new : PlainRun) (turns : List 
     setup_is = same_setup ∙ at.setup_is;
     machine = machine ∙ (λ i. plain_after (program_semantics (at.program_is i).functions) (at.machine i) p.0 label);
     endings = endings ∙ ap (λ (known : ℕ → Option _). update known p.0 (ending_after (known p.0) label)) at.endings;
-    count = count ∙ at.count;
   }
 
   pub line_turn : (label : Label) (line : List ℕ) → plain_turn old.machine.setup (program_semantics (program_in old).functions) (machine_of old.machine) p.0 ≡ Some label → line ≡ printed_of p.0 (line_text label)
@@ -69,7 +81,6 @@ module _ (program : Program) (setup : Setup) (old new : PlainRun) (turns : List 
     setup_is = same_setup ∙ at.setup_is;
     machine = machine ∙ at.machine;
     endings = endings ∙ at.endings;
-    count = count ∙ at.count;
   }
 
   pub line_none : (line : List ℕ) → plain_turn old.machine.setup (program_semantics (program_in old).functions) (machine_of old.machine) p.0 ≡ None → line ≡ []

@@ -1,6 +1,6 @@
 -- What the tokens of a text tell of it.
 use Rattle.std.specs.Prelude.{◌≡◌, ◌≢◌, ◌⊎◌, ℕ, List, Result, Ok, Err, IfOk, IfErr}
-use Rattle.std.proofs.Common.{inl, inr, subst, sym}
+use Rattle.std.proofs.Common.{inl, inr, subst, sym, refl}
 use Rattle.dsm_syntax.specs.declared.token.Token.{Token}
 use Rattle.dsm_syntax.specs.declared.errors.ProgErr.{ProgErr}
 use Rattle.dsm_syntax.specs.Texts.{IsLexed, IsAnswer, IsRefused as IsTextRefused}
@@ -14,7 +14,9 @@ use Rattle.dsm_check.specs.Programs.{checked}
 use Rattle.dsm_small.specs.declared.tree.SmallProgram.{SmallProgram}
 use Rattle.dsm_small.specs.Spelling.{IsSpelled}
 use Rattle.dsm_small.specs.Reader.{IsAnswerTo}
-use Rattle.dsm_top.specs.Refusals.{IsNoProgram, IsReadProgram, IsUnchecked, by_tokens, by_tree, by_rules}
+use Rattle.dsm_top.specs.declared.status.Status.{Status}
+use Rattle.dsm_top.specs.Accepted.{Contents, IsProgramText}
+use Rattle.dsm_top.specs.Refusals.{Given, RefusesProgram, OrMemory, status_of_error, IsNoProgram, IsReadProgram, IsUnchecked, by_tokens, by_tree, by_rules}
 use Rattle.dsm_top.specs.Prepared.{GivesProgram}
 
 same_tokens : (result : Result (List Token) ProgErr) (tokens other : List Token) → result ≡ Ok tokens → IsAnswer result (Ok other) → tokens ≡ other
@@ -59,3 +61,17 @@ pub rules_say : (text : List ℕ) (tokens : List Token) (items : List Item) (ans
 rules_say text tokens items (Ok program) lexed spelled accepted refused =
     record { tokens = tokens; lexed = lexed; items = items; spelled = spelled; is_checked = accepted }
 rules_say text tokens items (Err error) lexed spelled accepted refused = no_rules text tokens items error lexed spelled refused
+
+pub error_status : (error : ProgErr) → (error ≡ ProgErr.Memory → ⊥) → Status.ProgramRefused error ≡ status_of_error error
+error_status ProgErr.Memory other = absurd (other refl)
+error_status error other = refl
+
+-- a text that was read, and for which a reader of programs answers an error
+pub unaccepted : (given : Given) (name slice text : List ℕ) (files : Contents) (error : ProgErr) → given.files ≡ files → IsProgramText files name text → slice ≡ text → GivesProgram slice (Err error)
+    → OrMemory (RefusesProgram given name) (status_of_error error)
+unaccepted given name slice text files ProgErr.Memory same is_read here gives = tt
+unaccepted given name slice text files error same is_read here gives = record {
+  text = text;
+  is_read = subst (λ held. IsProgramText held name text) (sym same) is_read;
+  is_unchecked = subst (λ bytes. IsUnchecked bytes error) here gives;
+}

@@ -16,7 +16,7 @@ shown_set items k item default inside i j =
     ] i
 
 -- members that are all the default
-pub shown_none : {A : Type 0} (count : ℕ) (default : A) → (λ j. get_or (replicate count default) j default) ≡ (λ j. default)
+pub shown_none : {A : Type 0} (count : ℕ) (default : A) → ◌≡◌ {A = ℕ → A} (λ j. get_or (replicate count default) j default) (λ j. default)
 shown_none count default i j = none count j i where
   none : (count j : ℕ) → get_or (replicate count default) j default ≡ default
   none zero j = refl
@@ -38,3 +38,7 @@ pub all_shown : {A : Type 0} (test : A → Bool) (items : List A) (default : A) 
 all_shown test [] default = refl
 all_shown test (item ∷ items) default =
     ap (λ b. test item && b) (all_shown test items default) ∙ sym (first_apart (length items) (λ k. test (get_or (item ∷ items) k default)))
+
+-- what a test of all members tells
+pub all_told : {A : Type 0} (test : A → Bool) (items slice : List A) (default : A) (answer : Bool) → slice ≡ items → answer ≡ list_all test slice → all_below (length items) (λ k. test (get_or items k default)) ≡ answer
+all_told test items slice default answer read is = sym (all_shown test items default) ∙ (ap (list_all test) (sym read) ∙ sym is)

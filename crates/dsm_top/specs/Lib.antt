@@ -5,6 +5,5 @@ pub mod PickRuns
 pub mod Refusals
 pub mod Ended
 pub mod Runs
-pub mod Stub
 pub mod Prepared
 pub mod PlainRuns

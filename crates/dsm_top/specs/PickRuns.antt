@@ -10,8 +10,8 @@ use Rattle.dsm_base.specs.Plain.{Turn, plain_turn, after_run}
 use Rattle.dsm_base.specs.Threads.{Semantics}
 use Rattle.dsm_check.specs.Programs.{Program}
 use Rattle.dsm_check.specs.Setups.{IsSetupOf}
-use Rattle.dsm_check.specs.Semantics.{first_state, program_semantics}
-use Rattle.dsm_check.specs.SemanticsItems.{State}
+use Rattle.dsm_check.specs.Semantics.{program_semantics}
+use Rattle.dsm_plain.specs.Machine.{first_states}
 use Rattle.dsm_trace.specs.Processor.{ending_after}
 
 -- a run with one more turn, where there is one
@@ -31,10 +31,6 @@ run_by_picks setup first threads picks = fold (with_pick setup first threads) []
 abbrev pub endings_of : List Turn → ℕ → Option Ending
 endings_of [] = λ p. None
 endings_of (turn ∷ before) = update (endings_of before) turn.proc (ending_after (endings_of before turn.proc) turn.label)
-
--- the threads of a program's processors before their first steps, of so many
-abbrev pub first_states : Program → ℕ → ℕ → State
-first_states program procs me = first_state program.functions program.main program.private_cells procs me
 
 -- the run that picks make of a program that is set up so
 abbrev pub program_run : Program → Setup → List Proc → List Turn

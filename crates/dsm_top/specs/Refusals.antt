@@ -75,6 +75,11 @@ pub data IsUnchecked (text : List ℕ) (error : ProgErr) : Type 0 where
   -- a rule refuses the tree
   by_rules : (tokens : List Token) (items : List Item) → IsLexed text tokens → IsProgramOf (lexemes tokens) items → checked items ≡ Err error → IsUnchecked text error
 
+-- the status for the error of a reader of programs
+abbrev pub status_of_error : ProgErr → Status
+status_of_error ProgErr.Memory = Status.Memory
+status_of_error error = Status.ProgramRefused error
+
 -- the program was read, and is refused
 pub record HasUnchecked (files : Contents) (name : List ℕ) (error : ProgErr) : Type 0 where
   pub text : List ℕ

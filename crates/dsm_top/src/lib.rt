@@ -12,7 +12,6 @@ mod prepare;
 mod program;
 mod run;
 mod status;
-mod stub;
 mod tool;
 mod turn;
 

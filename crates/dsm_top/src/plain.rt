@@ -1,6 +1,7 @@
 //! The run of a program over one memory, by a list of picks.
 
-ghost use Rattle.std.specs.Prelude.{◌≡◌, ◌≤◌, ◌<◌, ◌⊎◌, ◌+◌, [], ◌++◌, length, reverse, take, List, IsTrue, Ok, OnOk, IfOk, IfErr};
+ghost use Rattle.std.specs.Prelude.{◌≡◌, ◌≤◌, ◌<◌, ◌⊎◌, ◌+◌, [], ◌++◌, length, reverse, take, List, IsTrue, Ok, OnOk, IfOk, IfErr, is_some};
+ghost use Rattle.std.specs.List.{list_all};
 ghost use Rattle.dsm_base.specs.Causes.{HasCause};
 ghost use Rattle.dsm_base.specs.Family.{update};
 ghost use Rattle.dsm_base.specs.Output.{printed_lines};
@@ -9,7 +10,7 @@ ghost use Rattle.dsm_base.specs.declared.setup.Setup.{Setup};
 ghost use Rattle.dsm_base.specs.Setups.{is_proc_count};
 ghost use Rattle.dsm_base.specs.Sink.{appended};
 ghost use Rattle.dsm_trace.specs.Processor.{ending_after};
-ghost use Rattle.dsm_world.specs.Finished.{finished_by};
+ghost use Rattle.dsm_world.specs.Finished.{finished_by, is_ended};
 ghost use Rattle.dsm_check.specs.Programs.{Program};
 ghost use Rattle.dsm_check.specs.CheckedViews.{program_of};
 ghost use Rattle.dsm_check.specs.Setups.{IsSetupOf, fitting};
@@ -18,21 +19,37 @@ ghost use Rattle.dsm_top.specs.Ended.{RanPlain};
 ghost use Rattle.dsm_top.specs.PickRuns.{endings_of, program_run};
 ghost use Rattle.dsm_top.specs.Prepared.{CanPick};
 ghost use Rattle.dsm_top.specs.Runs.{WroteCut};
-ghost use Rattle.dsm_top.specs.Stub.{machine_of, AreFew};
-ghost use Rattle.dsm_top.specs.PlainRuns.{endings_in, program_in, next_turns, IsAt};
+ghost use Rattle.dsm_plain.specs.Machine.{machine_of};
+ghost use Rattle.dsm_top.specs.PlainRuns.{endings_in, program_in, next_turns, IsWholeRun, IsAt};
 
 use crate::message::Line;
 use crate::output::put_all;
 use crate::prepare::PickRun;
 use crate::run::status_of;
 use crate::status::{Report, Status};
-use crate::stub::{Picked, Plain};
 use crate::turn::turn_line;
 use dsm_base::{Ending, Label, MemFault, Proc, ReadErr, Sink};
 use dsm_check::Checked;
 use dsm_picks::Picks;
+use dsm_plain::{Picked, Plain};
 use dsm_world::Finished;
 use std::alloc::Global;
+
+/// Whether each thread has ended.
+fn all_ended(endings: &[Option<Ending>]) -> bool
+    ensures { result ≡ list_all is_ended endings.now }
+{
+    endings
+        .iter()
+        .all(|ending| matches!(ending, Some(Ending::Ended)))
+}
+
+/// Whether each thread has ended or stopped.
+fn all_over(endings: &[Option<Ending>]) -> bool
+    ensures { result ≡ list_all is_some endings.now }
+{
+    endings.iter().all(|ending| ending.is_some())
+}
 
 /// How each thread came to be over, by processor.
 #[derive(Drop)]
@@ -69,13 +86,9 @@ impl Endings {
     fn finished(&self) -> Finished
         ensures { result ≡ finished_by (length self.now.list.items) (endings_in self.now) }
     {
-        if self
-            .list
-            .iter()
-            .all(|ending| *ending == Some(Ending::Ended))
-        {
+        if all_ended(&self.list) {
             Finished::Done
-        } else if self.list.iter().all(|ending| ending.is_some()) {
+        } else if all_over(&self.list) {
             Finished::Stopped
         } else {
             Finished::Unfinished
@@ -98,6 +111,7 @@ impl<'a> PlainRun<'a> {
         requires fits { fitting (program_of program.now) procs ≡ Ok tt }
         ensures setup { IfOk result (λ run. IsSetupOf (program_of program.now) procs run.machine.setup) }
         ensures at { IfOk result (λ run. IsAt (program_of program.now) run.machine.setup run []) }
+        ensures whole { IfOk result IsWholeRun }
         ensures units { IfOk result (λ run. run.units ≡ 0) }
     {
         Ok(PlainRun {
@@ -109,12 +123,12 @@ impl<'a> PlainRun<'a> {
 
     /// Applies a pick, and gives the line that it prints, if any. For want of memory no pick is counted.
     fn pick(&mut self, alloc: Global, proc: Proc) -> Result<Line, MemFault>
+        requires whole { IsWholeRun self.old }
         requires processor { proc.0 < self.old.machine.setup.procs }
-        requires endings { length self.old.endings.list.items ≡ self.old.machine.setup.procs }
-        requires few { AreFew (machine_of self.old.machine) }
         requires count { self.old.units < 500000 }
         ensures at { (program : Program) (setup : Setup) (turns : List Turn) → IsAt program setup self.old turns → OnOk result (IsAt program setup self.new (next_turns program setup turns proc)) }
         ensures line { (program : Program) (setup : Setup) (turns : List Turn) → IsAt program setup self.old turns → IfOk result (λ line. printed_lines (next_turns program setup turns proc) ≡ printed_lines turns ++ line) }
+        ensures whole { OnOk result (IsWholeRun self.new) }
         ensures units { OnOk result (self.new.units ≡ self.old.units + 1) }
         ensures err { IfErr result (λ _. self.new.units ≡ self.old.units) }
     {
@@ -138,11 +152,13 @@ fn apply_picks<K: Sink>(
     picks: &Picks,
     out: &mut K,
 ) -> Result<(), ReadErr>
+    requires whole { IsWholeRun run.old }
     requires at { IsAt (program_in run.old) run.old.machine.setup run.old [] }
     requires procs { run.old.machine.setup.procs ≡ picks.now.procs }
     requires no_units { run.old.units ≡ 0 }
     ensures count { run.new.units ≤ length (picked picks.now) }
     ensures all { OnOk result (run.new.units ≡ length (picked picks.now)) }
+    ensures whole { OnOk result (IsWholeRun run.new) }
     ensures at { OnOk result (IsAt (program_in run.old) run.old.machine.setup run.new (program_run (program_in run.old) run.old.machine.setup (take run.new.units (picked picks.now)))) }
     ensures wrote { OnOk result (K.sink_holds out.new ≡ appended (K.sink_holds out.old) (printed_lines (program_run (program_in run.old) run.old.machine.setup (take run.new.units (picked picks.now))))) }
     ensures cut { IfErr result (WroteCut (K.sink_holds out.old) (K.sink_holds out.new) (printed_lines (program_run (program_in run.old) run.old.machine.setup (take run.new.units (picked picks.now))))) }

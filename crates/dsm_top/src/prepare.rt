@@ -7,7 +7,7 @@ ghost use Rattle.dsm_check.specs.Setups.{fitting};
 ghost use Rattle.dsm_small.specs.declared.tree.SmallProgram.{SmallProgram};
 ghost use Rattle.dsm_top.specs.Accepted.{IsText, HasProgram, HasSchedule, IsAccepted, HasChecked, HasFitting, HasPicks};
 ghost use Rattle.dsm_top.specs.Command.{command_in};
-ghost use Rattle.dsm_top.specs.Refusals.{Given, RefusesRun, RefusesProgram, RefusesPicks, RefusesOwner, RefusesCheck, RefusesPlain, OrMemory, RefusesOrMemory};
+ghost use Rattle.dsm_top.specs.Refusals.{Given, RefusesRun, RefusesProgram, RefusesPicks, RefusesOwner, RefusesCheck, RefusesPlain, OrMemory, RefusesOrMemory, status_of_error};
 ghost use Rattle.dsm_top.specs.Prepared.{IsUnread, IsPart, CanRun, CanPick, IsReady, IsPrepared};
 
 use crate::command::Command;
@@ -97,6 +97,16 @@ fn schedule_of<F: Files>(alloc: Global, name: &String, files: &mut F) -> Result<
     }
 }
 
+/// The status for the error of a reader of programs.
+fn status_of_error(error: ProgErr) -> Status
+    ensures { result ≡ status_of_error error }
+{
+    match error {
+        ProgErr::Memory => Status::Memory,
+        error => Status::ProgramRefused(error),
+    }
+}
+
 /// Reads a program of the whole language.
 fn checked_of<F: Files>(alloc: Global, name: &String, files: &mut F) -> Result<Checked, Status>
     ensures program { IfOk result (λ program. HasChecked (F.files_hold files.old) (string_bytes name.now) (program_of program)) }
@@ -107,8 +117,7 @@ fn checked_of<F: Files>(alloc: Global, name: &String, files: &mut F) -> Result<C
     let text = read_text(alloc, files, name, MOST_TEXT, 0)?;
     match read_checked(alloc, text.as_slice()) {
         Ok(checked) => Ok(checked),
-        Err(ProgErr::Memory) => Err(Status::Memory),
-        Err(error) => Err(Status::ProgramRefused(error)),
+        Err(error) => Err(status_of_error(error)),
     }
 }
 

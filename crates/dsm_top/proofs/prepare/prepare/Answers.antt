@@ -1,21 +1,23 @@
-use Rattle.std.proofs.Common.{subst, sym, Some}
+use Rattle.std.proofs.Common.{Some, string_bytes}
 use Rattle.std.proofs.lemmas.Result.{err_from_is_err_and}
-use Rattle.dsm_top.specs.Accepted.{HasProgram, HasSchedule}
-use Rattle.dsm_top.specs.Command.{names_of}
-use Rattle.dsm_top.specs.Refusals.{RefusesOrMemory}
+use Rattle.dsm_top.specs.Command.{run, check, plain}
+use Rattle.dsm_top.proofs.Parts.{whole_part}
 use Rattle.dsm_top.proofs.prepare.prepare.Goals as goal
 
-pub returns-in_err-schedule-clause-refused : goal.returns-in_err-schedule-clause-refused
-returns-in_err-schedule-clause-refused g c =
-    let same = c.program_of.ensures.same in
-    let names = Some (names_of c.args.names) in
-    let has = subst (λ files. HasProgram names files c.in_ok-program.program) (sym same) c.in_ok-program.ensures.program in
-    let refused = c.in_err-schedule.ensures.refused c.in_ok-program.program (g.F.Files.files_faults c.args.files.now) has c.program_of.ensures.later in
-    let p = err_from_is_err_and c.from_residual-in_err-schedule.result c.from_residual-in_err-schedule.ensures.1 in
-    rw (p.1, p.2) (subst (λ files. RefusesOrMemory record { names = names; files = files; faults_before = g.F.Files.files_faults c.args.files.now; faults_after = g.F.Files.files_faults c.schedule_of.new.files } c.in_err-schedule.field-0.0) same refused)
+pub returns-in_err-prepare_run-in-Run-clause-refused : goal.returns-in_err-prepare_run-in-Run-clause-refused
+returns-in_err-prepare_run-in-Run-clause-refused g c =
+    let p = err_from_is_err_and c.from_residual.result c.from_residual.ensures.1 in
+    rw (c.in-Run.is, p.1, p.2) (c.in_err-prepare_run-in-Run.ensures.refused _
+    (whole_part (Some (run (string_bytes c.in-Run.program.now) (string_bytes c.in-Run.schedule.now))) (g.F.Files.files_hold c.args.files.now) (g.F.Files.files_faults c.args.files.now) (g.F.Files.files_faults c.prepare_run.new.files)))
 
-pub returns-clause-accepted : goal.returns-clause-accepted
-returns-clause-accepted g c = record {
-  has_program = c.in_ok-program.ensures.program;
-  has_schedule = subst (λ files. HasSchedule (Some (names_of c.args.names)) files c.in_ok-schedule.schedule.units) c.program_of.ensures.same c.in_ok-schedule.ensures.schedule;
-}
+pub returns-in_err-prepare_check-in-Check-clause-refused : goal.returns-in_err-prepare_check-in-Check-clause-refused
+returns-in_err-prepare_check-in-Check-clause-refused g c =
+    let p = err_from_is_err_and c.from_residual-in_err-prepare_check-in-Check.result c.from_residual-in_err-prepare_check-in-Check.ensures.1 in
+    rw (c.in-Check.is, p.1, p.2) (c.in_err-prepare_check-in-Check.ensures.refused _
+    (whole_part (Some (check (string_bytes c.in-Check.program.now) c.in-Check.procs)) (g.F.Files.files_hold c.args.files.now) (g.F.Files.files_faults c.args.files.now) (g.F.Files.files_faults c.prepare_check.new.files)))
+
+pub returns-in_err-prepare_plain-in-Plain-clause-refused : goal.returns-in_err-prepare_plain-in-Plain-clause-refused
+returns-in_err-prepare_plain-in-Plain-clause-refused g c =
+    let p = err_from_is_err_and c.from_residual-in_err-prepare_plain-in-Plain.result c.from_residual-in_err-prepare_plain-in-Plain.ensures.1 in
+    rw (c.in-Plain.is, p.1, p.2) (c.in_err-prepare_plain-in-Plain.ensures.refused _
+    (whole_part (Some (plain (string_bytes c.in-Plain.program.now) (string_bytes c.in-Plain.picks.now))) (g.F.Files.files_hold c.args.files.now) (g.F.Files.files_faults c.args.files.now) (g.F.Files.files_faults c.prepare_plain.new.files)))

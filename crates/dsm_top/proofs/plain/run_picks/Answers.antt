@@ -1,0 +1,43 @@
+use Rattle.std.proofs.Common.{sym, subst, inr, [], length, ◌≤◌}
+use Rattle.dsm_check.specs.CheckedViews.{program_of}
+use Rattle.dsm_check.specs.Programs.{Program}
+use Rattle.dsm_check.specs.Setups.{IsSetupOf}
+use Rattle.dsm_picks.specs.Entries.{picked}
+use Rattle.dsm_top.specs.declared.status.Status.{Status}
+use Rattle.dsm_top.specs.Ended.{Left, RanPlain, status_of}
+use Rattle.dsm_top.specs.PlainRuns.{program_in}
+use Rattle.dsm_top.proofs.PickEnds.{plain_whole, plain_cut, plain_short}
+use Rattle.dsm_top.proofs.plain.run_picks.Goals.{in-Ok-apply_picks, in-Err-Failed, in-Err-Memory}
+use Rattle.dsm_top.proofs.plain.run_picks.Goals as goal
+
+pub returns-clause-ran : goal.returns-clause-ran
+returns-clause-ran g c =
+    let procs = c.args.prepared.picks.procs in
+    let picks = picked c.args.prepared.picks in
+    let before = c.in-Ok.run' in
+    let setup = before.machine.setup in
+    let program : Program = program_in before in
+    let same = c.in-Ok.ensures.at.program_is in
+    let is_setup : IsSetupOf program procs setup = subst (λ one. IsSetupOf one procs setup) (sym same) c.in-Ok.ensures.setup in
+    let run = c.apply_picks.new.run in
+    let within : run.units ≤ length picks = c.apply_picks.ensures.count in
+    let left : Left = record {
+      before = g.K.Sink.sink_holds c.args.out.now;
+      after = g.K.Sink.sink_holds c.apply_picks.new.out;
+      faults_before = g.K.Sink.sink_faults c.args.out.now;
+      faults_after = g.K.Sink.sink_faults c.apply_picks.new.out;
+      trace = [];
+      units = run.units;
+    } in
+    let as_prepared = λ (status : Status) (ran : RanPlain program procs picks left status). subst (λ one. RanPlain one procs picks left status) same ran in
+    rw c.untraced-2.ensures (inr (elim c.match-apply_picks.branch [
+      | in-Ok-apply_picks w ↦
+          let ran = plain_whole program procs setup is_setup picks left within run w.finished.result w.finished.ensures w.in-Ok-apply_picks.ensures.whole w.in-Ok-apply_picks.ensures.at w.in-Ok-apply_picks.ensures.all w.in-Ok-apply_picks.ensures.wrote in
+          rw (w.status-is, w.status_of-status.ensures) (as_prepared (status_of w.finished.result) ran)
+      | in-Err-Failed w ↦
+          let ran = plain_cut program procs setup is_setup picks left within (rw (w.in-Err-Failed.field-0-is) at w.in-Err-Failed.ensures.cut) (rw (w.in-Err-Failed.field-0-is) at w.in-Err-Failed.ensures.cause.rose) in
+          rw (w.status-is) (as_prepared Status.WriteFault ran)
+      | in-Err-Memory w ↦
+          let ran = plain_short program procs setup is_setup picks left within (rw (w.in-Err-Memory.field-0-is) at w.in-Err-Memory.ensures.cut) in
+          rw (w.status-is) (as_prepared Status.Memory ran)
+    ]))
