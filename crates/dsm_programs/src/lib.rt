@@ -2,4 +2,6 @@
 #![tactic(auto)]
 
 #[cfg(test)]
+mod picks;
+#[cfg(test)]
 mod tests;
