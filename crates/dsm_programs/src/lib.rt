@@ -2,6 +2,4 @@
 #![tactic(auto)]
 
 #[cfg(test)]
-mod picks;
-#[cfg(test)]
 mod tests;

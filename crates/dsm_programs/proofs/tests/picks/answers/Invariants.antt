@@ -1,6 +1,6 @@
 use Rattle.std.proofs.Common.{◌≡◌, ◌+◌}
 use Rattle.dsm_plain.specs.Machine.{machine_of, AreBelow, IsWhole}
-use Rattle.dsm_programs.proofs.picks.answers.Given as goal
+use Rattle.dsm_programs.proofs.tests.picks.answers.Given as goal
 
 abbrev pub invariant-loop-pick : goal.invariant-loop-pick
 invariant-loop-pick l = record {
