@@ -6,6 +6,7 @@ mod checked;
 mod expressions;
 mod files;
 mod nesting;
+mod picks;
 mod read;
 mod shown;
 mod statements;
