@@ -14,7 +14,7 @@ new-requires-3-clause-stays c p below =
 pub returns-clause-setup : goal.returns-clause-setup
 returns-clause-setup c =
     let two : c.in_ok-setup-2.setup.value ≡ small_setup c.args.program 2 refl =
-        c.in_ok-setup-2.ensures.ok ∙ at_two c.in_ok-setup.field-0 c.args.program c.args.procs c.requires c.in_ok-setup.ensures.value in
+    c.in_ok-setup-2.ensures.ok ∙ at_two c.in_ok-setup.field-0 c.args.program c.args.procs c.requires c.in_ok-setup.ensures.value in
     subst (λ setup. IfOk c.new-3.result (λ world. setup_of world ≡ setup)) two c.new-3.ensures.setup
 
 pub returns-clause-first : goal.returns-clause-first
