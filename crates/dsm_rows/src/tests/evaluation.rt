@@ -333,7 +333,7 @@ fn lines_of_faults(rt: HostRuntime) -> Result<(), Fail> {
         "int f(int k) { return k ? f(k - 1) : f(1 /\n0); }\nint main(int me, int n) { f(254); }";
     assert_eq!(rt;
         written(alloc, program)?.bytes(),
-        b"P0: fault divzero line 1\n"
+        b"P0: fault divzero line 1\n".as_slice()
     );
     Ok(())
 }
