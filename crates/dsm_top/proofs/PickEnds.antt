@@ -1,6 +1,6 @@
 -- What a run by picks leaves at its end.
-use Rattle.std.specs.Prelude.{◌≡◌, ◌≤◌, ℕ, List, length, take, Option}
-use Rattle.std.proofs.Common.{refl, sym, ap, ◌∙◌, arith, subst}
+use Rattle.std.specs.Prelude.{◌≡◌, ◌≤◌, ℕ, List, length, take}
+use Rattle.std.proofs.Common.{refl, sym, ap, ◌∙◌}
 use Rattle.dsm_base.specs.Causes.{Rose}
 use Rattle.dsm_base.specs.Output.{printed_lines}
 use Rattle.dsm_base.specs.Sink.{appended, TakesPart}
@@ -13,7 +13,7 @@ use Rattle.dsm_world.specs.declared.world.Finished.{Finished}
 use Rattle.dsm_top.specs.declared.plain.PlainRun.{PlainRun}
 use Rattle.dsm_top.specs.declared.status.Status.{Status}
 use Rattle.dsm_top.specs.Ended.{Left, TakesFront, IsPlainRun, PlainWhole, RanPlain, status_of}
-use Rattle.dsm_top.specs.PickRuns.{program_run, endings_of}
+use Rattle.dsm_top.specs.PickRuns.{program_run}
 use Rattle.dsm_top.specs.PlainRuns.{endings_in, IsWholeRun, IsAt}
 
 module _ (program : Program) (procs : ℕ) (setup : Setup) (is_setup : IsSetupOf program procs setup) (picks : List Proc) (left : Left) (within : left.units ≤ length picks) where

@@ -1,5 +1,5 @@
 -- What one more pick leaves of a run in the code.
-use Rattle.std.specs.Prelude.{◌≡◌, ◌≤◌, ◌<◌, ◌+◌, ℕ, zero, suc, IsTrue, slice_get, List, [], ◌∷◌, ◌++◌, length, take, Option, Some, None}
+use Rattle.std.specs.Prelude.{◌≡◌, ◌≤◌, ◌<◌, ◌+◌, ℕ, zero, suc, slice_get, List, [], ◌∷◌, ◌++◌, length, take, Option, Some, None}
 use Rattle.std.proofs.Common.{refl, sym, ap, ◌∙◌, arith, subst, append-nil}
 use Rattle.std.proofs.Math.ListN.{get_or}
 use Rattle.std.proofs.lemmas.Option.{slice_get_within, get_or_from_slice_get}
@@ -9,7 +9,7 @@ use Rattle.dsm_base.specs.declared.label.Label.{Label}
 use Rattle.dsm_base.specs.declared.setup.Setup.{Setup}
 use Rattle.dsm_base.specs.Family.{update}
 use Rattle.dsm_base.specs.Output.{line_text, printed_of, printed_lines}
-use Rattle.dsm_base.specs.Plain.{Turn, PlainState, plain_start, plain_turn, plain_after, after_run}
+use Rattle.dsm_base.specs.Plain.{Turn, PlainState, plain_start, plain_turn, plain_after}
 use Rattle.dsm_base.specs.Threads.{Semantics}
 use Rattle.dsm_base.specs.Sink.{appended, TakesPart}
 use Rattle.dsm_trace.specs.Processor.{ending_after}
@@ -17,11 +17,10 @@ use Rattle.dsm_check.specs.Programs.{Program}
 use Rattle.dsm_check.specs.Semantics.{program_semantics}
 use Rattle.dsm_check.specs.SemanticsItems.{State}
 use Rattle.dsm_top.specs.declared.plain.PlainRun.{PlainRun}
-use Rattle.dsm_top.specs.Ended.{TakesFront}
 use Rattle.dsm_plain.specs.Machine.{machine_of, first_states, AreBelow}
 use Rattle.dsm_plain.specs.declared.waiting.Picked.{Picked}
 use Rattle.dsm_plain.specs.Waiting.{IsPick}
-use Rattle.dsm_top.specs.PickRuns.{with_turn, program_run, endings_of}
+use Rattle.dsm_top.specs.PickRuns.{with_turn, program_run}
 use Rattle.dsm_top.specs.PlainRuns.{endings_in, program_in, IsAt, next_turns}
 use Rattle.dsm_top.specs.Runs.{WroteCut}
 use Rattle.dsm_top.proofs.Applied.{part_cut}

@@ -1,5 +1,5 @@
 -- Which programs, schedules and lists of picks are run.
-use Rattle.std.specs.Prelude.{◌≡◌, ℕ, List, [], Option, Some, None, Ok}
+use Rattle.std.specs.Prelude.{◌≡◌, ℕ, List, [], Option, Some, Ok}
 use Rattle.dsm_base.specs.Files.{Reads}
 use Rattle.dsm_base.specs.declared.act.Act.{Act}
 use Rattle.dsm_syntax.specs.declared.token.Token.{Token}

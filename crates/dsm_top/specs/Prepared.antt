@@ -1,5 +1,5 @@
 -- What stands ready before anything is written.
-use Rattle.std.specs.Prelude.{◌≡◌, ◌≤◌, ℕ, List, Option, Some, None, Result, Ok, Err, refl}
+use Rattle.std.specs.Prelude.{◌≡◌, ◌≤◌, ℕ, List, Option, Some, Result, Ok, Err, refl}
 use Rattle.std.specs.List.{AllByRecursion}
 use Rattle.dsm_base.specs.Causes.{Rose}
 use Rattle.dsm_trace.specs.Fits.{IsWithin}

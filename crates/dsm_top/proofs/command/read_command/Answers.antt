@@ -1,6 +1,6 @@
 use Rattle.std.proofs.Common.{◌≡◌, ◌<◌, ◌⊎◌, ℕ, length, List, [], ◌∷◌, None, map, string_bytes, inl, inr, refl, arith, rules}
 use Rattle.std.proofs.lemmas.List.{length-map}
-use Rattle.dsm_top.specs.Command.{Command, command_of}
+use Rattle.dsm_top.specs.Command.{command_of}
 use Rattle.dsm_top.proofs.command.read_command.Goals.{in_default-via-then-words-lt3, in_default-via-else-words-lt3+else-words-lt4+else-words-lt5}
 use Rattle.dsm_top.proofs.command.read_command.Goals as goal
 

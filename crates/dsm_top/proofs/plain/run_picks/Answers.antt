@@ -1,5 +1,4 @@
 use Rattle.std.proofs.Common.{sym, subst, inr, [], length, ◌≤◌}
-use Rattle.dsm_check.specs.CheckedViews.{program_of}
 use Rattle.dsm_check.specs.Programs.{Program}
 use Rattle.dsm_check.specs.Setups.{IsSetupOf}
 use Rattle.dsm_picks.specs.Entries.{picked}

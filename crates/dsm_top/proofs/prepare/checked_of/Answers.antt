@@ -1,5 +1,4 @@
 use Rattle.std.proofs.Common.{string_bytes}
-use Rattle.dsm_top.specs.Refusals.{RefusesProgram, OrMemory}
 use Rattle.dsm_top.proofs.Programs.{unaccepted}
 use Rattle.dsm_top.proofs.prepare.checked_of.Goals as goal
 
