@@ -12,12 +12,12 @@ use Rattle.dsm_world.specs.Finished.{finished_by}
 use Rattle.dsm_world.specs.declared.world.Finished.{Finished}
 use Rattle.dsm_top.specs.declared.plain.PlainRun.{PlainRun}
 use Rattle.dsm_top.specs.declared.status.Status.{Status}
-use Rattle.dsm_top.specs.Ended.{Left, TakesFront, IsPlainRun, PlainWhole, RanPlain, status_of}
+use Rattle.dsm_top.specs.Ended.{Left, TakesFront, IsRunByFirst, PlainWhole, RanPlain, status_of}
 use Rattle.dsm_top.specs.PickRuns.{program_run}
 use Rattle.dsm_top.specs.PlainRuns.{endings_in, IsWholeRun, IsAt}
 
 module _ (program : Program) (procs : ℕ) (setup : Setup) (is_setup : IsSetupOf program procs setup) (picks : List Proc) (left : Left) (within : left.units ≤ length picks) where
-  is_run : IsPlainRun program procs picks left.units (program_run program setup (take left.units picks))
+  is_run : IsRunByFirst program procs picks left.units (program_run program setup (take left.units picks))
   is_run = record { within = within; is_run = record { setup = setup; is_setup = is_setup; is_run = refl } }
 
   by_status : (finished : Finished) → PlainWhole program procs picks left finished → RanPlain program procs picks left (status_of finished)

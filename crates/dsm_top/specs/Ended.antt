@@ -108,15 +108,15 @@ Checked left _ = ⊥
 
 -- A run over one memory.
 
--- so many picks were applied, and they make this run
-pub record IsPlainRun (program : Program) (procs : ℕ) (picks : List Proc) (units : ℕ) (turns : List Turn) : Type 0 where
+-- the first picks, so many, make this run
+pub record IsRunByFirst (program : Program) (procs : ℕ) (picks : List Proc) (units : ℕ) (turns : List Turn) : Type 0 where
   pub within : units ≤ length picks
   pub is_run : IsRunByPicks program procs (take units picks) turns
 
 -- all picks were applied, all lines are written, and the threads stand so
 pub record PlainWhole (program : Program) (procs : ℕ) (picks : List Proc) (left : Left) (finished : Finished) : Type 0 where
   pub turns : List Turn
-  pub is_run : IsPlainRun program procs picks left.units turns
+  pub is_run : IsRunByFirst program procs picks left.units turns
   pub all : left.units ≡ length picks
   pub stands : finished_by procs (endings_of turns) ≡ finished
   pub wrote : left.after ≡ appended left.before (printed_lines turns)
@@ -124,14 +124,14 @@ pub record PlainWhole (program : Program) (procs : ℕ) (picks : List Proc) (lef
 -- the sink failed, and has taken a part of the lines
 pub record PlainCut (program : Program) (procs : ℕ) (picks : List Proc) (left : Left) : Type 0 where
   pub turns : List Turn
-  pub is_run : IsPlainRun program procs picks left.units turns
+  pub is_run : IsRunByFirst program procs picks left.units turns
   pub wrote : TakesPart left.before left.after (printed_lines turns)
   pub rose : Rose left.faults_before left.faults_after
 
 -- memory ran out, and the sink has taken a front of the lines
 pub record PlainShort (program : Program) (procs : ℕ) (picks : List Proc) (left : Left) : Type 0 where
   pub turns : List Turn
-  pub is_run : IsPlainRun program procs picks left.units turns
+  pub is_run : IsRunByFirst program procs picks left.units turns
   pub wrote : TakesFront left.before left.after (printed_lines turns)
 
 -- what a run by picks leaves, by the status
