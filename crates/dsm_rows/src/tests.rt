@@ -194,6 +194,7 @@ fn words_and_missing_files_are_refused(rt: HostRuntime) -> Result<(), Fail> {
     let alloc = rt.alloc();
     for (text, status, message) in [
         ("", 5, "dsm: words refused\n"),
+        ("run", 5, "dsm: words refused\n"),
         ("run prog", 5, "dsm: words refused\n"),
         ("walk prog sched", 5, "dsm: words refused\n"),
         ("run prog sched sched", 5, "dsm: words refused\n"),

@@ -175,6 +175,8 @@ fn refusals_come_in_their_order(rt: HostRuntime) -> Result<(), Fail> {
     let alloc = rt.alloc();
     for (text, program, picks, status, message) in [
         ("", COUNTER, "procs 2\n", 5, "dsm: words refused\n"),
+        ("check", COUNTER, "procs 2\n", 5, "dsm: words refused\n"),
+        ("plain", COUNTER, "procs 2\n", 5, "dsm: words refused\n"),
         (
             "plain prog",
             COUNTER,
