@@ -238,6 +238,41 @@ fn assignments(rt: HostRuntime) -> Result<(), Fail> {
 }
 
 #[test]
+fn assignments_at_the_limits(rt: HostRuntime) -> Result<(), Fail> {
+    let alloc = rt.alloc();
+    let table = [
+        ("low++", "-9223372036854775808"),
+        ("++low", "-9223372036854775807"),
+        ("big--", "9223372036854775807"),
+        ("--big", "9223372036854775806"),
+        ("big++", "fault overflow line 2"),
+        ("++big", "fault overflow line 2"),
+        ("low--", "fault overflow line 2"),
+        ("--low", "fault overflow line 2"),
+        ("big -= -1", "fault overflow line 2"),
+        ("big *= 2", "fault overflow line 2"),
+        ("low /= -1", "fault overflow line 2"),
+        ("low %= -1", "fault overflow line 2"),
+        ("low %= 0", "fault divzero line 2"),
+        ("big <<= 1", "fault overflow line 2"),
+        ("low >>= 63", "-1"),
+        ("low >>= 64", "fault shift line 2"),
+        ("big &= low", "0"),
+        ("big |= low", "-1"),
+        ("big ^= -1", "-9223372036854775808"),
+    ];
+    for (expression, outcome) in table {
+        let found = printed(alloc, NUMBERS, expression)?;
+        assert_eq!(rt;
+            found.bytes(),
+            line(alloc, outcome)?.as_bytes(),
+            "{expression}"
+        );
+    }
+    Ok(())
+}
+
+#[test]
 fn order(rt: HostRuntime) -> Result<(), Fail> {
     let alloc = rt.alloc();
     let table = [
