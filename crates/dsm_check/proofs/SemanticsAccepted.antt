@@ -1,15 +1,17 @@
--- An accepted program names only cells, locks and barriers that there are.
-use Rattle.std.proofs.Common.{◌≡◌, ℕ, ◌+◌, ◌<◌, ◌≤◌, Bool, true, false, List, [], ◌∷◌, ◌++◌, bytes_eq, Option, Some, None, IfSome, Ok, Err, refl, subst, if◌then◌else◌, arith}
+-- An accepted program names only cells, locks and barriers that there are, and its prints fit into lines.
+use Rattle.std.proofs.Common.{◌≡◌, ℕ, ◌+◌, ◌*◌, ◌<◌, ◌≤◌, nat_lt, min, Bool, true, false, ◌&&◌, List, [], ◌∷◌, ◌++◌, length, bytes_eq, Option, Some, None, IfSome, Ok, Err, refl, subst, if◌then◌else◌, arith}
 use Rattle.std.specs.Prelude.{IsTrue}
 use Rattle.std.specs.List.{AllByRecursion, AllByRecursion-prop}
 use Rattle.std.proofs.lemmas.Bool.Decides.{nat_tests}
 use Rattle.std.proofs.Math.Logic.{∥∥₁_elim}
 use Rattle.std.proofs.Props.{props}
 use Rattle.dsm_syntax.specs.declared.errors.ProgErr.TheVariants as err
+use Rattle.dsm_syntax.specs.declared.errors.Which.{Which}
 use Rattle.dsm_syntax.specs.declared.errors.Which.TheVariants as which
 use Rattle.dsm_syntax.specs.declared.tree.Name.{Name}
 use Rattle.dsm_syntax.specs.declared.tree.Sharing.{Sharing}
 use Rattle.dsm_syntax.specs.Tree as t
+use Rattle.dsm_syntax.specs.Sound.{all_are, is_sound_option, is_sound, is_sound_part, is_sound_start, is_sound_statement, are_sound_statements, is_sound_item, is_sound_program}
 use Rattle.dsm_check.specs.declared.names.Named.{Named}
 use Rattle.dsm_check.specs.declared.resolved.Array.{Array}
 use Rattle.dsm_check.specs.Resolved as r
@@ -21,7 +23,7 @@ use Rattle.dsm_check.specs.Bindings.{as_barrier, pieces_of}
 use Rattle.dsm_check.specs.Bodies.{Scope, Around, as_single, as_array, as_called, count_of, resolve_place, resolve, resolve_all, resolve_effect, optional, with_variable, resolve_variable, open_block, closing, as_one_lock, as_lock_array, resolve_lock, resolve_part, all_made, text_bytes, resolve_print, resolve_start, is_void, resolve_return, resolve_statement, resolve_statements, resolve_function, with_body, functions_of}
 use Rattle.dsm_check.specs.Programs.{Program, checked}
 use Rattle.dsm_check.specs.Accepted.{IsAccepted}
-use Rattle.dsm_check.specs.SemanticsWithin.{Extent, IsArrayBelow, IsCellWithin, IsArrayWithin, IsLocationWithin, IsWithin, AreWithin, IsOptionWithin, AreVariablesWithin, IsPartWithin, ArePartsWithin, IsStartWithin, IsLockWithin, IsStatementWithin, AreStatementsWithin, AreFunctionsWithin}
+use Rattle.dsm_check.specs.SemanticsWithin.{Extent, IsArrayBelow, IsCellWithin, IsArrayWithin, IsLocationWithin, IsWithin, AreWithin, IsOptionWithin, AreVariablesWithin, IsPartWithin, ArePartsWithin, most_bytes, IsPrintWithin, IsStartWithin, IsLockWithin, IsStatementWithin, AreStatementsWithin, AreFunctionsWithin}
 use Rattle.dsm_check.proofs.Successes.{then_in, each_keeps, both_true}
 
 ok_in : {A : Type 0} (P : A → Type 0) (a b : A) → ◌≡◌ {A = Check A} (Ok a) (Ok b) → P a → P b
@@ -30,6 +32,13 @@ ok_in P a b h p = let same : a ≡ b = cc in subst P same p
 all_more : {A : Type 0} (P : A → Type 0) (items : List A) (item : A) → AllByRecursion P items → P item → AllByRecursion P (items ++ item ∷ [])
 all_more P [] item all one = (one, tt)
 all_more P (first ∷ items) item all one = (all.0, all_more P items item all.1 one)
+
+within_most : (which : Which) (most count made : ℕ) → within which most count ≡ Ok made → count ≤ most
+within_most which most count made h = by (nat_lt most count) refl h
+  where
+    by : (over : Bool) → nat_lt most count ≡ over → (if over then Err (err.Limit which (min count 4294967295)) else Ok count) ≡ Ok made → count ≤ most
+    by true e h = cc
+    by false e h = grind (arith, nat_tests)
 
 module _ (extent : Extent) where
   -- Each claim has one proof at most.
@@ -71,8 +80,13 @@ module _ (extent : Extent) where
   variables_prop variables = AllByRecursion-prop (λ variable. IsOptionWithin extent variable.initial) (λ variable. option_prop variable.initial) variables
 
   part_prop : (part : r.Part) → IsProp (IsPartWithin extent part)
-  part_prop (r.part_text text) = λ a b. refl
+  part_prop (r.part_text text) = hlevel props
   part_prop (r.part_value e) = expression_prop e
+
+  print_prop : (parts : List r.Part) → IsProp (IsPrintWithin extent parts)
+  print_prop parts =
+      let few : IsProp (most_bytes parts ≤ 256) = hlevel props in
+      λ a b i. (AllByRecursion-prop (IsPartWithin extent) part_prop parts a.0 b.0 i, few a.1 b.1 i)
 
   start_prop : (start : r.ForStart) → IsProp (IsStartWithin extent start)
   start_prop r.start_nothing = λ a b. refl
@@ -101,7 +115,7 @@ module _ (extent : Extent) where
     statement_prop (r.acquire lock mode) = lock_prop lock
     statement_prop (r.release lock) = lock_prop lock
     statement_prop (r.barrier bar) = hlevel props
-    statement_prop (r.print parts) = AllByRecursion-prop (IsPartWithin extent) part_prop parts
+    statement_prop (r.print parts) = print_prop parts
 
     statements_prop : (statements : r.Statements) → IsProp (AreStatementsWithin extent statements)
     statements_prop r.none = λ a b. refl
@@ -269,23 +283,43 @@ module _ (extent : Extent) where
         then_in (resolve names index) _ x h2 (λ at e3 h3.
         ok_in (IsLockWithin extent) _ x h3 (lock_array_within name named array (used_within names name named all e1) e2, expression_within index at e3))))
 
-    part_within : (part : t.Part) (x : r.Part) → resolve_part names part ≡ Ok x → IsPartWithin extent x
-    part_within (t.part_text text) x h = ok_in (IsPartWithin extent) (r.part_text text) x h tt
-    part_within (t.part_value e) x h =
+    part_within : (part : t.Part) (x : r.Part) → is_sound_part part ≡ true → resolve_part names part ≡ Ok x → IsPartWithin extent x
+    part_within (t.part_text text) x sound h = ok_in (IsPartWithin extent) (r.part_text text) x h sound
+    part_within (t.part_value e) x sound h =
         then_in (resolve names e) _ x h (λ value e1 h1. ok_in (IsPartWithin extent) _ x h1 (expression_within e value e1))
 
-    parts_within : (parts : List t.Part) (x : List r.Part) → all_made (resolve_part names) parts ≡ Ok x → ArePartsWithin extent x
-    parts_within [] x h = ok_in (ArePartsWithin extent) [] x h tt
-    parts_within (part ∷ rest) x h =
+    parts_within : (parts : List t.Part) (x : List r.Part) → all_are is_sound_part parts ≡ true → all_made (resolve_part names) parts ≡ Ok x → ArePartsWithin extent x
+    parts_within [] x sound h = ok_in (ArePartsWithin extent) [] x h tt
+    parts_within (part ∷ rest) x sound h =
+        let both = both_true (is_sound_part part) (all_are is_sound_part rest) sound in
         then_in (resolve_part names part) _ x h (λ first e1 h1.
         then_in (all_made (resolve_part names) rest) _ x h1 (λ others e2 h2.
-        ok_in (ArePartsWithin extent) _ x h2 (part_within part first e1, parts_within rest others e2)))
+        ok_in (ArePartsWithin extent) _ x h2 (part_within part first both.0 e1, parts_within rest others both.1 e2)))
 
-    print_within : (parts : List t.Part) (x : List r.Part) → resolve_print names parts ≡ Ok x → ArePartsWithin extent x
-    print_within parts x h =
-        then_in (within which.PrintParts 8 _) _ x h (λ count e1 h1.
+    abbrev AreFew : List t.Part → List r.Part → Type 0
+    AreFew parts x = most_bytes x ≤ 20 * length parts + text_bytes parts
+
+    one_more : (part : t.Part) (rest : List t.Part) (x : r.Part) (others : List r.Part) → resolve_part names part ≡ Ok x → AreFew rest others → AreFew (part ∷ rest) (x ∷ others)
+    one_more (t.part_text text) rest x others h few =
+        ok_in (λ made. AreFew (t.part_text text ∷ rest) (made ∷ others)) (r.part_text text) x h (omega (arith, few))
+    one_more (t.part_value e) rest x others h few =
+        then_in (resolve names e) _ x h (λ value e1 h1.
+        ok_in (λ made. AreFew (t.part_value e ∷ rest) (made ∷ others)) (r.part_value value) x h1 (omega (arith, few)))
+
+    parts_few : (parts : List t.Part) (x : List r.Part) → all_made (resolve_part names) parts ≡ Ok x → AreFew parts x
+    parts_few [] x h = ok_in (AreFew []) [] x h (omega arith)
+    parts_few (part ∷ rest) x h =
+        then_in (resolve_part names part) _ x h (λ first e1 h1.
+        then_in (all_made (resolve_part names) rest) _ x h1 (λ others e2 h2.
+        ok_in (AreFew (part ∷ rest)) _ x h2 (one_more part rest first others e1 (parts_few rest others e2))))
+
+    print_within : (parts : List t.Part) (x : List r.Part) → all_are is_sound_part parts ≡ true → resolve_print names parts ≡ Ok x → IsPrintWithin extent x
+    print_within parts x sound h =
+        then_in (within which.PrintParts 8 (length parts)) _ x h (λ count e1 h1.
         then_in (within which.PrintText 96 (text_bytes parts)) _ x h1 (λ bytes e2 h2.
-        parts_within parts x h2))
+        let few = within_most which.PrintParts 8 (length parts) count e1 in
+        let short = within_most which.PrintText 96 (text_bytes parts) bytes e2 in
+        (parts_within parts x sound h2, omega (arith, few, short, parts_few parts x h2))))
 
     return_within : (around : Around) (line : ℕ) (value : Option t.Expression) (x : Option r.Expression) → resolve_return around names line value ≡ Ok x → IsOptionWithin extent x
     return_within around line None x h = ok_in (IsOptionWithin extent) None x h tt
@@ -356,35 +390,40 @@ module _ (extent : Extent) where
 
   module _ (around : Around) where
     mutual
-      statement_within : (looped : Bool) (scope : Scope) (statement : t.Statement) (made : r.Statement × Scope) → resolve_statement around looped scope statement ≡ Ok made
-          → AreNamesWithin scope.names → Keeps made
-      statement_within looped scope (t.block body) made h all =
+      statement_within : (looped : Bool) (scope : Scope) (statement : t.Statement) (made : r.Statement × Scope) → is_sound_statement statement ≡ true
+          → resolve_statement around looped scope statement ≡ Ok made → AreNamesWithin scope.names → Keeps made
+      statement_within looped scope (t.block body) made sound h all =
           then_in (closing (resolve_statements around looped (open_block scope) body)) _ made h (λ inner e1 h1.
-          ok_in Keeps _ made h1 (closing_within (AreStatementsWithin extent) _ inner e1 (λ inside e. statements_within looped (open_block scope) body inside e all)))
-      statement_within looped scope t.empty made h all = ok_in Keeps (r.empty, scope) made h (tt, all)
-      statement_within looped scope (t.variables variables) made h all =
+          ok_in Keeps _ made h1 (closing_within (AreStatementsWithin extent) _ inner e1 (λ inside e. statements_within looped (open_block scope) body inside sound e all)))
+      statement_within looped scope t.empty made sound h all = ok_in Keeps (r.empty, scope) made h (tt, all)
+      statement_within looped scope (t.variables variables) made sound h all =
           then_in (each_made resolve_variable scope variables) _ made h (λ inner e1 h1.
           ok_in Keeps _ made h1 (variables_within scope variables inner e1 all))
-      statement_within looped scope (t.expression e) made h all =
+      statement_within looped scope (t.expression e) made sound h all =
           then_in (resolve_effect scope.names e) _ made h (λ effect e1 h1. ok_in Keeps _ made h1 (effect_within scope.names all e effect e1, all))
-      statement_within looped scope (t.when test body) made h all =
+      statement_within looped scope (t.when test body) made sound h all =
+          let of_body = (both_true (is_sound test) (is_sound_statement body) sound).1 in
           then_in (resolve scope.names test) _ made h (λ condition e1 h1.
           then_in (closing (resolve_statement around looped (open_block scope) body)) _ made h1 (λ inner e2 h2.
-          let kept = closing_within (IsStatementWithin extent) _ inner e2 (λ inside e. statement_within looped (open_block scope) body inside e all) in
+          let kept = closing_within (IsStatementWithin extent) _ inner e2 (λ inside e. statement_within looped (open_block scope) body inside of_body e all) in
           ok_in Keeps _ made h2 ((expression_within scope.names all test condition e1, kept.0), kept.1)))
-      statement_within looped scope (t.either test body other) made h all =
+      statement_within looped scope (t.either test body other) made sound h all =
+          let both = both_true (is_sound test && is_sound_statement body) (is_sound_statement other) sound in
+          let of_body = (both_true (is_sound test) (is_sound_statement body) both.0).1 in
           then_in (resolve scope.names test) _ made h (λ condition e1 h1.
           then_in (closing (resolve_statement around looped (open_block scope) body)) _ made h1 (λ inner e2 h2.
           then_in (closing (resolve_statement around looped (open_block inner.1) other)) _ made h2 (λ more e3 h3.
-          let kept = closing_within (IsStatementWithin extent) _ inner e2 (λ inside e. statement_within looped (open_block scope) body inside e all) in
-          let last = closing_within (IsStatementWithin extent) _ more e3 (λ inside e. statement_within looped (open_block inner.1) other inside e kept.1) in
+          let kept = closing_within (IsStatementWithin extent) _ inner e2 (λ inside e. statement_within looped (open_block scope) body inside of_body e all) in
+          let last = closing_within (IsStatementWithin extent) _ more e3 (λ inside e. statement_within looped (open_block inner.1) other inside both.1 e kept.1) in
           ok_in Keeps _ made h3 ((expression_within scope.names all test condition e1, kept.0, last.0), last.1))))
-      statement_within looped scope (t.while test body) made h all =
+      statement_within looped scope (t.while test body) made sound h all =
+          let of_body = (both_true (is_sound test) (is_sound_statement body) sound).1 in
           then_in (resolve scope.names test) _ made h (λ condition e1 h1.
           then_in (closing (resolve_statement around true (open_block scope) body)) _ made h1 (λ inner e2 h2.
-          let kept = closing_within (IsStatementWithin extent) _ inner e2 (λ inside e. statement_within true (open_block scope) body inside e all) in
+          let kept = closing_within (IsStatementWithin extent) _ inner e2 (λ inside e. statement_within true (open_block scope) body inside of_body e all) in
           ok_in Keeps _ made h2 ((expression_within scope.names all test condition e1, kept.0), kept.1)))
-      statement_within looped scope (t.for start test step body) made h all =
+      statement_within looped scope (t.for start test step body) made sound h all =
+          let of_body = (both_true (is_sound_start start && is_sound_option is_sound test && is_sound_option is_sound step) (is_sound_statement body) sound).1 in
           closing_within (IsStatementWithin extent) _ made h (λ inside e.
           then_in (resolve_start (open_block scope) start) _ inside e (λ begun e1 h1.
           then_in (optional (resolve begun.1.names) test) _ inside h1 (λ condition e2 h2.
@@ -392,7 +431,7 @@ module _ (extent : Extent) where
           then_in (closing (resolve_statement around true (open_block begun.1) body)) _ inside h3 (λ inner e4 h4.
           let first = start_within (open_block scope) start begun e1 all in
           let names = begun.1.names in
-          let kept = closing_within (IsStatementWithin extent) _ inner e4 (λ deep f. statement_within true (open_block begun.1) body deep f first.1) in
+          let kept = closing_within (IsStatementWithin extent) _ inner e4 (λ deep f. statement_within true (open_block begun.1) body deep of_body f first.1) in
           ok_in Keeps _ inside h4 (
             (
               first.0,
@@ -402,69 +441,73 @@ module _ (extent : Extent) where
             ),
             kept.1,
           ))))))
-      statement_within looped scope (t.break line) made h all = by looped h
+      statement_within looped scope (t.break line) made sound h all = by looped h
         where
           by : (test : Bool) → (if test then Ok (r.break, scope) else Err (err.OutsideLoop line)) ≡ Ok made → Keeps made
           by true h = ok_in Keeps (r.break, scope) made h (tt, all)
           by false h = cc
-      statement_within looped scope (t.continue line) made h all = by looped h
+      statement_within looped scope (t.continue line) made sound h all = by looped h
         where
           by : (test : Bool) → (if test then Ok (r.continue, scope) else Err (err.OutsideLoop line)) ≡ Ok made → Keeps made
           by true h = ok_in Keeps (r.continue, scope) made h (tt, all)
           by false h = cc
-      statement_within looped scope (t.return line value) made h all =
+      statement_within looped scope (t.return line value) made sound h all =
           then_in (resolve_return around scope.names line value) _ made h (λ given e1 h1.
           ok_in Keeps _ made h1 (return_within scope.names all around line value given e1, all))
-      statement_within looped scope (t.acquire place) made h all =
+      statement_within looped scope (t.acquire place) made sound h all =
           then_in (resolve_lock scope.names place) _ made h (λ lock e1 h1. ok_in Keeps _ made h1 (lock_within scope.names all place lock e1, all))
-      statement_within looped scope (t.acquire_shared place) made h all =
+      statement_within looped scope (t.acquire_shared place) made sound h all =
           then_in (resolve_lock scope.names place) _ made h (λ lock e1 h1. ok_in Keeps _ made h1 (lock_within scope.names all place lock e1, all))
-      statement_within looped scope (t.release place) made h all =
+      statement_within looped scope (t.release place) made sound h all =
           then_in (resolve_lock scope.names place) _ made h (λ lock e1 h1. ok_in Keeps _ made h1 (lock_within scope.names all place lock e1, all))
-      statement_within looped scope (t.barrier name) made h all =
+      statement_within looped scope (t.barrier name) made sound h all =
           then_in (used scope.names name) _ made h (λ named e1 h1.
           then_in (as_barrier name named) _ made h1 (λ number e2 h2.
           ok_in Keeps _ made h2 (barrier_within name named number (used_within scope.names name named all e1) e2, all)))
-      statement_within looped scope (t.print parts) made h all =
-          then_in (resolve_print scope.names parts) _ made h (λ inner e1 h1. ok_in Keeps _ made h1 (print_within scope.names all parts inner e1, all))
+      statement_within looped scope (t.print parts) made sound h all =
+          then_in (resolve_print scope.names parts) _ made h (λ inner e1 h1. ok_in Keeps _ made h1 (print_within scope.names all parts inner sound e1, all))
 
-      statements_within : (looped : Bool) (scope : Scope) (statements : t.Statements) (made : r.Statements × Scope) → resolve_statements around looped scope statements ≡ Ok made
-          → AreNamesWithin scope.names → KeepsAll made
-      statements_within looped scope t.none made h all = ok_in KeepsAll (r.none, scope) made h (tt, all)
-      statements_within looped scope (t.then statement rest) made h all =
+      statements_within : (looped : Bool) (scope : Scope) (statements : t.Statements) (made : r.Statements × Scope) → are_sound_statements statements ≡ true
+          → resolve_statements around looped scope statements ≡ Ok made → AreNamesWithin scope.names → KeepsAll made
+      statements_within looped scope t.none made sound h all = ok_in KeepsAll (r.none, scope) made h (tt, all)
+      statements_within looped scope (t.then statement rest) made sound h all =
+          let both = both_true (is_sound_statement statement) (are_sound_statements rest) sound in
           then_in (resolve_statement around looped scope statement) _ made h (λ first e1 h1.
           then_in (resolve_statements around looped first.1 rest) _ made h1 (λ others e2 h2.
-          let one = statement_within looped scope statement first e1 all in
-          let more = statements_within looped first.1 rest others e2 one.1 in
+          let one = statement_within looped scope statement first both.0 e1 all in
+          let more = statements_within looped first.1 rest others both.1 e2 one.1 in
           ok_in KeepsAll _ made h2 ((one.0, more.0), more.1)))
 
   -- Functions.
 
-  function_within : (names : List Entry) (function : t.Function) (made : r.Function) → AreNamesWithin names → resolve_function names function ≡ Ok made
-      → AreStatementsWithin extent made.body
-  function_within names function made all h =
+  function_within : (names : List Entry) (function : t.Function) (made : r.Function) → AreNamesWithin names → are_sound_statements function.body ≡ true
+      → resolve_function names function ≡ Ok made → AreStatementsWithin extent made.body
+  function_within names function made all sound h =
       then_in (each with_variable (record { names = opened ∷ names; slots = 0 }) (params_of function.params)) _ made h (λ start e1 h1.
       let inside = each_keeps (λ scope. AreNamesWithin scope.names) with_variable variable_known (record { names = opened ∷ names; slots = 0 }) (params_of function.params) start e1 all in
       let around : Around = record { name = function.name.text; returns = function.returns } in
       then_in (resolve_statements around false start function.body) _ made h1 (λ body e2 h2.
-      ok_in (λ f. AreStatementsWithin extent f.body) _ made h2 (statements_within around false start function.body body e2 inside).0))
+      ok_in (λ f. AreStatementsWithin extent f.body) _ made h2 (statements_within around false start function.body body sound e2 inside).0))
 
-  body_keeps : (names : List Entry) → AreNamesWithin names → (functions : List r.Function) (item : t.Item) (after : List r.Function) → with_body names functions item ≡ Ok after
-      → AreFunctionsWithin extent functions → AreFunctionsWithin extent after
-  body_keeps names all functions (t.function function) after h before =
+  body_keeps : (names : List Entry) → AreNamesWithin names → (functions : List r.Function) (item : t.Item) (after : List r.Function) → is_sound_item item ≡ true
+      → with_body names functions item ≡ Ok after → AreFunctionsWithin extent functions → AreFunctionsWithin extent after
+  body_keeps names all functions (t.function function) after sound h before =
       then_in (resolve_function names function) _ after h (λ made e1 h1.
-      ok_in (AreFunctionsWithin extent) _ after h1 (all_more (λ f. AreStatementsWithin extent f.body) functions made before (function_within names function made all e1)))
-  body_keeps names all functions (t.cells sharing cells) after h before = ok_in (AreFunctionsWithin extent) functions after h before
-  body_keeps names all functions (t.locks locks) after h before = ok_in (AreFunctionsWithin extent) functions after h before
-  body_keeps names all functions (t.barriers barriers) after h before = ok_in (AreFunctionsWithin extent) functions after h before
-  body_keeps names all functions (t.bind bind) after h before = ok_in (AreFunctionsWithin extent) functions after h before
-  body_keeps names all functions (t.bind_each bind) after h before = ok_in (AreFunctionsWithin extent) functions after h before
-  body_keeps names all functions (t.bind_barrier bind) after h before = ok_in (AreFunctionsWithin extent) functions after h before
+      ok_in (AreFunctionsWithin extent) _ after h1 (all_more (λ f. AreStatementsWithin extent f.body) functions made before (function_within names function made all sound e1)))
+  body_keeps names all functions (t.cells sharing cells) after sound h before = ok_in (AreFunctionsWithin extent) functions after h before
+  body_keeps names all functions (t.locks locks) after sound h before = ok_in (AreFunctionsWithin extent) functions after h before
+  body_keeps names all functions (t.barriers barriers) after sound h before = ok_in (AreFunctionsWithin extent) functions after h before
+  body_keeps names all functions (t.bind bind) after sound h before = ok_in (AreFunctionsWithin extent) functions after h before
+  body_keeps names all functions (t.bind_each bind) after sound h before = ok_in (AreFunctionsWithin extent) functions after h before
+  body_keeps names all functions (t.bind_barrier bind) after sound h before = ok_in (AreFunctionsWithin extent) functions after h before
 
-  functions_within : (names : List Entry) (items : List t.Item) (functions : List r.Function) → AreNamesWithin names → functions_of names items ≡ Ok functions
-      → AreFunctionsWithin extent functions
-  functions_within names items functions all h =
-      each_keeps (AreFunctionsWithin extent) (with_body names) (body_keeps names all) [] items functions h tt
+  bodies_within : (names : List Entry) → AreNamesWithin names → (before : List r.Function) (items : List t.Item) (functions : List r.Function) → is_sound_program items ≡ true
+      → each (with_body names) before items ≡ Ok functions → AreFunctionsWithin extent before → AreFunctionsWithin extent functions
+  bodies_within names all before [] functions sound h within = ok_in (AreFunctionsWithin extent) before functions h within
+  bodies_within names all before (item ∷ rest) functions sound h within =
+      let both = both_true (is_sound_item item) (is_sound_program rest) sound in
+      then_in (with_body names before item) _ functions h (λ after e1 h1.
+      bodies_within names all after rest functions both.1 h1 (body_keeps names all before item after both.0 e1 within))
 
   -- The names of a file.
 
@@ -498,16 +541,17 @@ module _ (extent : Extent) where
 abbrev pub extent_in : Program → Extent
 extent_in program = record { cells = program.shared_cells; locks = program.locks; bars = program.barriers }
 
-accepted_items : (items : List t.Item) (program : Program) → IsTrue (is_numbered program.names) → checked items ≡ Ok program → AreFunctionsWithin (extent_in program) program.functions
-accepted_items items program numbered h =
+accepted_items : (items : List t.Item) (program : Program) → IsTrue (is_numbered program.names) → IsTrue (is_sound_program items) → checked items ≡ Ok program
+    → AreFunctionsWithin (extent_in program) program.functions
+accepted_items items program numbered sound h =
     then_in (file_names items) _ program h (λ names e1 h1.
     then_in (main_of (meaning names main_name)) _ program h1 (λ main e2 h2.
     then_in (pieces_of names items) _ program h2 (λ pieces e3 h3.
     then_in (functions_of names items) _ program h3 (λ functions e4 h4.
     ok_in (λ p. IsTrue (is_numbered p.names) → AreFunctionsWithin (extent_in p) p.functions) _ program h4
     (λ is. let extent : Extent = record { cells = total (cells_in Sharing.Shared) names; locks = total locks_in names; bars = total barriers_in names } in
-    functions_within extent names items functions (names_within extent names is (record { cells = omega arith; locks = omega arith; bars = omega arith })) e4) numbered))))
+    bodies_within extent names (names_within extent names is (record { cells = omega arith; locks = omega arith; bars = omega arith })) [] items functions sound e4 tt) numbered))))
 
 pub accepted_within : (program : Program) → IsTrue (is_numbered program.names) → ∥ IsAccepted program ∥₁ → AreFunctionsWithin (extent_in program) program.functions
 accepted_within program numbered accepted =
-    ∥∥₁_elim accepted (functions_prop (extent_in program) program.functions) (λ (a : IsAccepted program). accepted_items a.0 program numbered a.2)
+    ∥∥₁_elim accepted (functions_prop (extent_in program) program.functions) (λ (a : IsAccepted program). accepted_items a.0 program numbered a.1 a.2)

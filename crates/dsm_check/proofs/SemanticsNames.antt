@@ -202,7 +202,7 @@ module _ (extent : Extent) (functions : List r.Function) (all : AreFunctionsWith
   within_execution s (r.acquire lock mode) p w = (within_reaching_lock lock _ w (lock_place_within lock w, p.0), p.1)
   within_execution s (r.release lock) p w = (within_reaching_lock lock _ w (lock_place_within lock w, p.0), p.1)
   within_execution s (r.barrier bar) p w = (w, λ answer. ((w, p.0), p.1))
-  within_execution s (r.print parts) p w = ((w, (tt, p.0)), p.1)
+  within_execution s (r.print parts) p w = ((w.0, (w, p.0)), p.1)
 
   within_statements : (s : State) (statements : r.Statements) → IsStateWithin extent s → AreStatementsWithin extent statements
       → KeepsWithin (execution_of_all s statements)

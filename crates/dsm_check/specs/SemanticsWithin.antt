@@ -1,12 +1,13 @@
--- A program names only cells, locks and barriers that there are, and so does what remains to be done of it.
-use Rattle.std.specs.Prelude.{ℕ, ◌+◌, ◌<◌, ◌≤◌, List, [], ◌∷◌, Option, Some, None}
+-- A program names only cells, locks and barriers that there are, and its prints fit into lines; so it is with what remains to be done of it.
+use Rattle.std.specs.Prelude.{IsTrue, ℕ, ◌+◌, ◌<◌, ◌≤◌, List, [], ◌∷◌, length, Option, Some, None}
 use Rattle.std.specs.List.{AllByRecursion}
 use Rattle.dsm_base.specs.declared.label.Want.{Want}
 use Rattle.dsm_base.specs.declared.setup.Setup.{Setup}
 use Rattle.dsm_syntax.specs.declared.tree.Sharing.{Sharing}
+use Rattle.dsm_syntax.specs.Sound.{is_sound_string}
 use Rattle.dsm_check.specs.declared.resolved.Array.{Array}
 use Rattle.dsm_check.specs.Resolved as r
-use Rattle.dsm_check.specs.SemanticsItems.{Place, slot, cell, member, LockPlace, one_lock, lock_member, Loop, Item, evaluate, evaluate_all, load, store, and_then, or_else, choose, execute, run, declare, branch, round, decide, third_part, jump_back, ask, take_lock, give, cross, gather, Frame, State}
+use Rattle.dsm_check.specs.SemanticsItems.{Place, slot, cell, member, LockPlace, one_lock, lock_member, Loop, Item, evaluate, evaluate_all, load, store, and_then, or_else, choose, execute, run, declare, branch, round, decide, third_part, jump_back, ask, take_lock, give, cross, gather, print, Frame, State}
 
 -- how many shared cells, locks and barriers there are
 pub record Extent : Type 0 where
@@ -58,11 +59,21 @@ abbrev pub AreVariablesWithin : Extent → List r.Variable → Type 0
 AreVariablesWithin extent variables = AllByRecursion (λ variable. IsOptionWithin extent variable.initial) variables
 
 abbrev pub IsPartWithin : Extent → r.Part → Type 0
-IsPartWithin extent (r.part_text text) = Unit {0}
+IsPartWithin extent (r.part_text text) = IsTrue (is_sound_string text)
 IsPartWithin extent (r.part_value e) = IsWithin extent e
 
 abbrev pub ArePartsWithin : Extent → List r.Part → Type 0
 ArePartsWithin extent parts = AllByRecursion (IsPartWithin extent) parts
+
+-- how many bytes these parts make at most; a value makes at most 20
+abbrev pub most_bytes : List r.Part → ℕ
+most_bytes [] = 0
+most_bytes (r.part_text text ∷ rest) = length text + most_bytes rest
+most_bytes (r.part_value e ∷ rest) = 20 + most_bytes rest
+
+-- a line has at most 256 bytes
+abbrev pub IsPrintWithin : Extent → List r.Part → Type 0
+IsPrintWithin extent parts = ArePartsWithin extent parts × (most_bytes parts ≤ 256)
 
 abbrev pub IsStartWithin : Extent → r.ForStart → Type 0
 IsStartWithin extent r.start_nothing = Unit {0}
@@ -91,7 +102,7 @@ abbrev mutual
   IsStatementWithin extent (r.acquire lock mode) = IsLockWithin extent lock
   IsStatementWithin extent (r.release lock) = IsLockWithin extent lock
   IsStatementWithin extent (r.barrier bar) = bar.0 < extent.bars
-  IsStatementWithin extent (r.print parts) = ArePartsWithin extent parts
+  IsStatementWithin extent (r.print parts) = IsPrintWithin extent parts
 
   pub AreStatementsWithin : Extent → r.Statements → Type 0
   AreStatementsWithin extent r.none = Unit {0}
@@ -150,6 +161,7 @@ IsItemWithin extent (take_lock lock mode) = IsLockPlaceWithin extent lock
 IsItemWithin extent (give lock) = IsLockPlaceWithin extent lock
 IsItemWithin extent (cross bar) = bar.0 < extent.bars
 IsItemWithin extent (gather parts) = ArePartsWithin extent parts
+IsItemWithin extent (print parts) = IsPrintWithin extent parts
 IsItemWithin extent _ = Unit {0}
 
 abbrev pub AreItemsWithin : Extent → List Item → Type 0
