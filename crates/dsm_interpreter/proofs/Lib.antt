@@ -2,3 +2,4 @@ pub mod Values
 pub mod Tops
 pub mod Moves
 pub mod Finishing
+pub mod Lines

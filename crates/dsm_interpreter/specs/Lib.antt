@@ -1,3 +1,4 @@
 pub mod Threads
 pub mod Sound
 pub mod Finished
+pub mod Lines
