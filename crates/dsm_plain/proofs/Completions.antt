@@ -15,7 +15,7 @@ use Rattle.dsm_interpreter.specs.Threads.{state_of}
 use Rattle.dsm_plain.specs.declared.machine.Plain.{Plain}
 use Rattle.dsm_plain.specs.declared.standing.Standing.{Standing}
 use Rattle.dsm_plain.specs.Labels.{Follows}
-use Rattle.dsm_plain.specs.Machine.{IsWhole, want_at, machine_of, semantics_of, family_of, first_states, standing_at, no_standing, held_of, arrived_of, crossed_of}
+use Rattle.dsm_plain.specs.Machine.{HasSizes, IsWhole, want_at, machine_of, semantics_of, family_of, first_states, standing_at, no_standing, held_of, arrived_of, crossed_of}
 use Rattle.dsm_plain.proofs.Extents.{narrow_setup, functions_set_up, IsLabelWithin, label_within}
 use Rattle.dsm_plain.proofs.Families.{family_of_set, update_under}
 use Rattle.dsm_plain.proofs.States.{found_has, state_found, states_put, states_have}
@@ -38,6 +38,9 @@ module _ (plain : Plain) (whole : IsWhole plain) (p : ℕ) (is_processor : p < p
 
   pub standings_have : p < length plain.standings.items
   standings_have = subst (λ n. p < n) (sym whole.standings) is_processor
+
+  pub sizes_are : (standing : Standing) → standing ≡ get_or plain.standings.items at standing → HasSizes plain.setup.locks plain.setup.bars standing
+  sizes_are standing found = found_has (HasSizes plain.setup.locks plain.setup.bars) plain.standings.items at p standing found same standings_have whole.sizes
 
   pub label_is_within : IsLabelWithin extent label
   label_is_within =

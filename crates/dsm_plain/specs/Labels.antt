@@ -1,9 +1,10 @@
--- Labels that name only cells, locks and barriers of so many, and labels that may follow a want.
+-- Labels that name only cells, locks and barriers of so many, labels that print lines, and labels that may follow a want.
 use Rattle.std.specs.Prelude.{ℕ, ◌<◌}
 use Rattle.dsm_base.specs.declared.label.Label.{Label}
 use Rattle.dsm_base.specs.declared.label.Want.{Want}
 use Rattle.dsm_base.specs.Threads.{Completes}
 use Rattle.dsm_check.specs.SemanticsSteps.{answer_of}
+use Rattle.dsm_interpreter.specs.Lines.{IsLine}
 
 -- a store goes to one of so many cells
 abbrev pub WritesCells : ℕ → Label → Type 0
@@ -21,6 +22,11 @@ abbrev pub PassesBarriers : ℕ → Label → Type 0
 PassesBarriers count (Label.Arrive bar) = bar.0 < count
 PassesBarriers count (Label.Cross bar epoch) = bar.0 < count
 PassesBarriers count _ = Unit {0}
+
+-- what is printed is a line
+abbrev pub PrintsLine : Label → Type 0
+PrintsLine (Label.Line text) = IsLine text
+PrintsLine _ = Unit {0}
 
 -- a label that completes a want, or a stop
 abbrev pub Follows : Want → Label → Type 0

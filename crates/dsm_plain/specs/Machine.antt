@@ -80,11 +80,6 @@ seen_standing plain standing = record {
   versions = (machine_of plain).versions;
 }
 
--- no count is near the greatest number of 32 bits
-pub record AreFew (s : PlainState State) : Type 0 where
-  pub versions : (lock : ℕ) → s.versions lock < 4000000000
-  pub arrived : (p bar : ℕ) → s.arrived p bar < 4000000000
-
 -- all counts are below a bound
 pub record AreBelow (bound : ℕ) (s : PlainState State) : Type 0 where
   pub versions : (lock : ℕ) → s.versions lock < bound

@@ -8,6 +8,7 @@ use Rattle.dsm_base.specs.Plain.{PlainState, may_stand_beside, plain_turn, plain
 use Rattle.dsm_base.specs.Threads.{Semantics}
 use Rattle.dsm_plain.specs.declared.waiting.Holder.{Holder}
 use Rattle.dsm_plain.specs.declared.waiting.Picked.{Picked}
+use Rattle.dsm_plain.specs.Labels.{PrintsLine}
 
 -- q, who holds a lock so, where p may not take it in this mode beside q
 abbrev pub as_blocker : ℕ → Mode → ℕ → Option Mode → List Holder
@@ -43,3 +44,8 @@ IsPick setup threads old p new (Picked.Missing procs) =
     (plain_turn setup threads old p ≡ None) × (new ≡ old) × IsAhead setup old p (threads.want (old.threads p)) procs
 IsPick setup threads old p new Picked.Over =
     (plain_turn setup threads old p ≡ None) × (new ≡ old) × (threads.want (old.threads p) ≡ Want.Over)
+
+-- where a turn was made that prints, it prints a line
+abbrev pub TurnPrintsLine : Picked → Type 0
+TurnPrintsLine (Picked.Did label) = PrintsLine label
+TurnPrintsLine _ = Unit {0}

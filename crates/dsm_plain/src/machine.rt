@@ -7,8 +7,8 @@ ghost use Rattle.dsm_base.specs.declared.label.Want.{Want};
 ghost use Rattle.dsm_check.specs.CheckedViews.{program_of};
 ghost use Rattle.dsm_check.specs.Setups.{IsSetupOf, fitting};
 ghost use Rattle.dsm_check.specs.Semantics.{program_semantics};
-ghost use Rattle.dsm_plain.specs.Machine.{machine_of, semantics_of, want_at, first_states, AreBelow, AreFew, IsWhole, IsSameProgram};
-ghost use Rattle.dsm_plain.specs.Waiting.{IsPick};
+ghost use Rattle.dsm_plain.specs.Machine.{machine_of, semantics_of, want_at, first_states, AreBelow, IsWhole, IsSameProgram};
+ghost use Rattle.dsm_plain.specs.Waiting.{IsPick, TurnPrintsLine};
 
 use crate::standing::{Numbers, Standing};
 use crate::start::{start_memory, start_standings, start_threads, start_versions};
@@ -62,10 +62,11 @@ impl<'a> Plain<'a> {
     pub fn pick(&mut self, proc: Proc) -> Result<Picked, MemFault>
         requires whole { IsWhole self.old }
         requires processor { proc.0 < self.old.setup.procs }
-        requires few { AreFew (machine_of self.old) }
+        requires few { AreBelow 4000000000 (machine_of self.old) }
         ensures setup { self.new.setup ≡ self.old.setup }
         ensures program { self.new.checked.now ≡ self.old.checked.now }
         ensures picked { IfOk result (IsPick self.old.setup (program_semantics (program_of self.old.checked.now).functions) (machine_of self.old) proc.0 (machine_of self.new)) }
+        ensures line { IfOk result TurnPrintsLine }
         ensures whole { OnOk result (IsWhole self.new) }
         ensures counts { OnOk result ((bound : ℕ) → AreBelow bound (machine_of self.old) → AreBelow (bound + 1) (machine_of self.new)) }
     {
@@ -76,10 +77,11 @@ impl<'a> Plain<'a> {
     fn pick_of(&mut self, proc: Proc) -> Result<Picked, MemFault>
         requires whole { IsWhole self.old }
         requires processor { proc.0 < self.old.setup.procs }
-        requires few { AreFew (machine_of self.old) }
+        requires few { AreBelow 4000000000 (machine_of self.old) }
         ensures setup { self.new.setup ≡ self.old.setup }
         ensures program { self.new.checked.now ≡ self.old.checked.now }
         ensures picked { IfOk result (IsPick self.old.setup (program_semantics (program_of self.old.checked.now).functions) (machine_of self.old) proc.0 (machine_of self.new)) }
+        ensures line { IfOk result TurnPrintsLine }
         ensures whole { OnOk result (IsWhole self.new) }
     {
         let want = self.want(proc)?;
@@ -106,10 +108,11 @@ impl<'a> Plain<'a> {
     fn take(&mut self, proc: Proc, lock: Lock, mode: Mode) -> Result<Picked, MemFault>
         requires whole { IsWhole self.old }
         requires processor { proc.0 < self.old.setup.procs }
-        requires few { AreFew (machine_of self.old) }
+        requires few { AreBelow 4000000000 (machine_of self.old) }
         requires want { want_at self.old proc.0 ≡ Want.Take lock mode }
         ensures same { IsSameProgram self.old self.new }
         ensures picked { IfOk result (IsPick self.old.setup (semantics_of self.old) (machine_of self.old) proc.0 (machine_of self.new)) }
+        ensures line { IfOk result TurnPrintsLine }
         ensures whole { OnOk result (IsWhole self.new) }
     {
         let holders = blockers(self.alloc, self.standings.as_slice(), proc, lock, mode)?;
@@ -124,10 +127,11 @@ impl<'a> Plain<'a> {
     fn cross(&mut self, proc: Proc, bar: Bar) -> Result<Picked, MemFault>
         requires whole { IsWhole self.old }
         requires processor { proc.0 < self.old.setup.procs }
-        requires few { AreFew (machine_of self.old) }
+        requires few { AreBelow 4000000000 (machine_of self.old) }
         requires want { want_at self.old proc.0 ≡ Want.Cross bar }
         ensures same { IsSameProgram self.old self.new }
         ensures picked { IfOk result (IsPick self.old.setup (semantics_of self.old) (machine_of self.old) proc.0 (machine_of self.new)) }
+        ensures line { IfOk result TurnPrintsLine }
         ensures whole { OnOk result (IsWhole self.new) }
     {
         let epoch = self.standings[usize::from(proc.0)].crossings_at(bar);
@@ -143,11 +147,12 @@ impl<'a> Plain<'a> {
     fn turn(&mut self, proc: Proc, want: Want) -> Result<Picked, MemFault>
         requires whole { IsWhole self.old }
         requires processor { proc.0 < self.old.setup.procs }
-        requires few { AreFew (machine_of self.old) }
+        requires few { AreBelow 4000000000 (machine_of self.old) }
         requires want { want ≡ want_at self.old proc.0 }
         requires possible { IsTrue (is_possible self.old.setup.procs (machine_of self.old) proc.0 want) }
         ensures same { IsSameProgram self.old self.new }
         ensures picked { IfOk result (IsPick self.old.setup (semantics_of self.old) (machine_of self.old) proc.0 (machine_of self.new)) }
+        ensures line { IfOk result TurnPrintsLine }
         ensures whole { OnOk result (IsWhole self.new) }
     {
         match self.label(proc, want)? {

@@ -1,6 +1,6 @@
 //! The label of a turn, and what the turn leaves.
 
-ghost use Rattle.std.specs.Prelude.{◌≡◌, ◌<◌, ℕ, pos, [], length, map, Some, is_some, if◌then◌else◌, OnOk, IfOk};
+ghost use Rattle.std.specs.Prelude.{◌≡◌, ◌<◌, ℕ, pos, [], length, map, Some, is_some, if◌then◌else◌, OnOk, IfOk, IfSome};
 ghost use Rattle.dsm_base.specs.Plain.{plain_after, memory_after, versions_after, label_of};
 ghost use Rattle.dsm_base.specs.declared.names.Bar.{Bar};
 ghost use Rattle.dsm_base.specs.declared.names.Fault.{Fault};
@@ -12,8 +12,8 @@ ghost use Rattle.dsm_check.specs.SemanticsSteps;
 ghost use Rattle.dsm_check.specs.SemanticsSteps.{want_of};
 ghost use Rattle.dsm_interpreter.specs.Sound.{IsSoundState};
 ghost use Rattle.dsm_interpreter.specs.Threads.{state_of};
-ghost use Rattle.dsm_plain.specs.Labels.{TakesLocks, WritesCells, Follows};
-ghost use Rattle.dsm_plain.specs.Machine.{family_of, held_of, machine_of, semantics_of, seen_standing, want_at, label_at, AreFew, IsWhole, IsSameProgram};
+ghost use Rattle.dsm_plain.specs.Labels.{TakesLocks, WritesCells, PrintsLine, Follows};
+ghost use Rattle.dsm_plain.specs.Machine.{family_of, held_of, machine_of, semantics_of, seen_standing, want_at, label_at, AreBelow, IsWhole, IsSameProgram};
 
 use crate::access::{may_load, may_store};
 use crate::machine::Plain;
@@ -100,7 +100,8 @@ impl<'a> Plain<'a> {
         requires whole { IsWhole self.now }
         requires processor { proc.0 < self.now.setup.procs }
         requires room { (bar : Bar) → want ≡ Want.Cross bar → (machine_of self.now).crossed proc.0 bar.0 < 4000000000 }
-        ensures { IfOk result (λ label. label ≡ label_at self.now proc.0 want) }
+        ensures label { IfOk result (λ label. label ≡ label_at self.now proc.0 want) }
+        ensures line { IfOk result (λ label. IfSome label PrintsLine) }
     {
         let standing = &self.standings[usize::from(proc.0)];
         match want {
@@ -173,7 +174,7 @@ impl<'a> Plain<'a> {
     pub(crate) fn complete(&mut self, proc: Proc, label: &Label) -> Result<(), MemFault>
         requires whole { IsWhole self.old }
         requires processor { proc.0 < self.old.setup.procs }
-        requires few { AreFew (machine_of self.old) }
+        requires few { AreBelow 4000000000 (machine_of self.old) }
         requires follows { Follows (want_at self.old proc.0) label.now }
         ensures machine { OnOk result (machine_of self.new ≡ plain_after (semantics_of self.old) (machine_of self.old) proc.0 label.now) }
         ensures whole { OnOk result (IsWhole self.new) }

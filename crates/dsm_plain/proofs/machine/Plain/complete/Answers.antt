@@ -10,9 +10,9 @@ use Rattle.dsm_interpreter.specs.Sound.{IsSoundState}
 use Rattle.dsm_interpreter.specs.Threads.{state_of}
 use Rattle.dsm_plain.specs.Labels.{TakesLocks, WritesCells, PassesBarriers}
 use Rattle.dsm_plain.specs.Machine.{HasSizes, IsReady, machine_of, no_standing, held_of, arrived_of, crossed_of}
-use Rattle.dsm_plain.proofs.Completions.{label_is_within, sound_after, ready_after_within, machine_after, standings_have}
+use Rattle.dsm_plain.proofs.Completions.{label_is_within, sound_after, ready_after_within, machine_after, standings_have, sizes_are}
 use Rattle.dsm_plain.proofs.Outcomes.{on_ok}
-use Rattle.dsm_plain.proofs.States.{found_at, found_has, ready_is}
+use Rattle.dsm_plain.proofs.States.{found_at, ready_is}
 use Rattle.dsm_plain.proofs.machine.Plain.complete.Goals as goal
 
 pub change_versions-requires-clause-locks : goal.change_versions-requires-clause-locks
@@ -27,26 +27,20 @@ change_memory-requires c =
 
 pub change-requires-clause-locks : goal.change-requires-clause-locks
 change-requires-clause-locks c =
-    let plain = c.args.self.now in
     let within = label_is_within c.args.self.now c.requires.whole c.args.proc.0 c.requires.processor c.args.label.now c.requires.follows c.from-at.result c.from-at.ensures in
-    let have = standings_have c.args.self.now c.requires.whole c.args.proc.0 c.requires.processor c.args.label.now c.requires.follows c.from-at.result c.from-at.ensures in
-    let sizes = found_has (HasSizes plain.setup.locks plain.setup.bars) plain.standings.items c.from-at.result c.args.proc.0 c.index_mut.result.now c.index_mut.ensures.value c.from-at.ensures have c.requires.whole.sizes in
+    let sizes = sizes_are c.args.self.now c.requires.whole c.args.proc.0 c.requires.processor c.args.label.now c.requires.follows c.from-at.result c.from-at.ensures c.index_mut.result.now c.index_mut.ensures.value in
     subst (λ n. TakesLocks n c.args.label.now) (sym sizes.held) within.locks
 
 pub change-requires-clause-arrived : goal.change-requires-clause-arrived
 change-requires-clause-arrived c =
-    let plain = c.args.self.now in
     let within = label_is_within c.args.self.now c.requires.whole c.args.proc.0 c.requires.processor c.args.label.now c.requires.follows c.from-at.result c.from-at.ensures in
-    let have = standings_have c.args.self.now c.requires.whole c.args.proc.0 c.requires.processor c.args.label.now c.requires.follows c.from-at.result c.from-at.ensures in
-    let sizes = found_has (HasSizes plain.setup.locks plain.setup.bars) plain.standings.items c.from-at.result c.args.proc.0 c.index_mut.result.now c.index_mut.ensures.value c.from-at.ensures have c.requires.whole.sizes in
+    let sizes = sizes_are c.args.self.now c.requires.whole c.args.proc.0 c.requires.processor c.args.label.now c.requires.follows c.from-at.result c.from-at.ensures c.index_mut.result.now c.index_mut.ensures.value in
     subst (λ n. PassesBarriers n c.args.label.now) (sym sizes.arrived) within.bars
 
 pub change-requires-clause-crossed : goal.change-requires-clause-crossed
 change-requires-clause-crossed c =
-    let plain = c.args.self.now in
     let within = label_is_within c.args.self.now c.requires.whole c.args.proc.0 c.requires.processor c.args.label.now c.requires.follows c.from-at.result c.from-at.ensures in
-    let have = standings_have c.args.self.now c.requires.whole c.args.proc.0 c.requires.processor c.args.label.now c.requires.follows c.from-at.result c.from-at.ensures in
-    let sizes = found_has (HasSizes plain.setup.locks plain.setup.bars) plain.standings.items c.from-at.result c.args.proc.0 c.index_mut.result.now c.index_mut.ensures.value c.from-at.ensures have c.requires.whole.sizes in
+    let sizes = sizes_are c.args.self.now c.requires.whole c.args.proc.0 c.requires.processor c.args.label.now c.requires.follows c.from-at.result c.from-at.ensures c.index_mut.result.now c.index_mut.ensures.value in
     subst (λ n. PassesBarriers n c.args.label.now) (sym sizes.crossed) within.bars
 
 pub change-requires-clause-few : goal.change-requires-clause-few
@@ -86,8 +80,7 @@ returns-clause-whole c =
     let label = c.args.label.now in
     let thread = c.index_mut-2.result.now in
     let functions = (program_of plain.checked.now).functions in
-    let have = standings_have c.args.self.now c.requires.whole c.args.proc.0 c.requires.processor c.args.label.now c.requires.follows c.from-at.result c.from-at.ensures in
-    let sizes = found_has (HasSizes plain.setup.locks plain.setup.bars) plain.standings.items c.from-at.result c.args.proc.0 c.index_mut.result.now c.index_mut.ensures.value c.from-at.ensures have c.requires.whole.sizes in
+    let sizes = sizes_are c.args.self.now c.requires.whole c.args.proc.0 c.requires.processor c.args.label.now c.requires.follows c.from-at.result c.from-at.ensures c.index_mut.result.now c.index_mut.ensures.value in
     on_ok c.advance.result c.advance.ensures (λ after.
     let is : state_of c.advance.new.thread ≡ ready functions (completed functions (state_of thread) label) =
     subst (λ functions. state_of c.advance.new.thread ≡ ready functions (completed functions (state_of thread) label)) c.functions-functions.ensures after in

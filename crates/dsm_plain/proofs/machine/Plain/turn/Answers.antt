@@ -14,4 +14,4 @@ complete-requires-clause-follows c =
     let plain = c.args.self.now in
     let p = c.args.proc.0 in
     subst (λ want. Follows want c.in-Some.label) c.requires.want
-    (label_follows plain.setup.bindings p (seen_by (machine_of plain) p) ((semantics_of plain).text ((machine_of plain).threads p)) c.args.want c.in-Some.label (sym c.in_ok-label.ensures ∙ c.in-Some.is))
+    (label_follows plain.setup.bindings p (seen_by (machine_of plain) p) ((semantics_of plain).text ((machine_of plain).threads p)) c.args.want c.in-Some.label (sym c.in_ok-label.ensures.label ∙ c.in-Some.is))
