@@ -5,6 +5,7 @@ use dsm_base::{MemFiles, MemSink, NamedFiles};
 use dsm_top::run_tool;
 use sqlite_items::Items;
 use std::alloc::Global;
+use std::process::Abort;
 use std::test::Fail;
 
 /// The greatest and the least number.
@@ -44,12 +45,6 @@ fn written(alloc: Global, program: &str) -> Result<MemSink, Fail> {
     Ok(sink)
 }
 
-/// What is written where a program that begins so prints these parts, which begin on its second line.
-fn printed(alloc: Global, start: &str, parts: &str) -> Result<MemSink, Fail> {
-    let program = format!(in alloc; "{start} print(\n{parts}); }}")?;
-    written(alloc, program.as_str())
-}
-
 /// What is written where a program that begins so goes on with these statements.
 fn done(alloc: Global, start: &str, statements: &str) -> Result<MemSink, Fail> {
     let program = format!(in alloc; "{start} {statements} }}")?;
@@ -61,9 +56,29 @@ fn line(alloc: Global, text: &str) -> Result<String, Fail> {
     Ok(format!(in alloc; "P0: {text}\n")?)
 }
 
+/// Each expression comes to what stands beside it: the line that a program prints which begins so, with
+/// the expression on its second line and these parts behind it.
+fn come_to(
+    rt: &impl Abort,
+    alloc: Global,
+    start: &str,
+    behind: &str,
+    table: &[(&str, &str)],
+) -> Result<(), Fail> {
+    for (expression, outcome) in table {
+        let program = format!(in alloc; "{start} print(\n{expression}{behind}); }}")?;
+        let found = written(alloc, program.as_str())?;
+        assert_eq!(rt;
+            found.bytes(),
+            line(alloc, outcome)?.as_bytes(),
+            "{expression}"
+        );
+    }
+    Ok(())
+}
+
 #[test]
 fn numbers(rt: HostRuntime) -> Result<(), Fail> {
-    let alloc = rt.alloc();
     let table = [
         ("2 + 3", "5"),
         ("low + big", "-1"),
@@ -97,20 +112,11 @@ fn numbers(rt: HostRuntime) -> Result<(), Fail> {
         ("-low", "fault overflow line 2"),
         ("+low", "-9223372036854775808"),
     ];
-    for (expression, outcome) in table {
-        let found = printed(alloc, NUMBERS, expression)?;
-        assert_eq!(rt;
-            found.bytes(),
-            line(alloc, outcome)?.as_bytes(),
-            "{expression}"
-        );
-    }
-    Ok(())
+    come_to(&rt, rt.alloc(), NUMBERS, "", table.as_slice())
 }
 
 #[test]
 fn shifts_and_bits(rt: HostRuntime) -> Result<(), Fail> {
-    let alloc = rt.alloc();
     let table = [
         ("5 << 0", "5"),
         ("1 << 62", "4611686018427387904"),
@@ -137,20 +143,11 @@ fn shifts_and_bits(rt: HostRuntime) -> Result<(), Fail> {
         ("~0", "-1"),
         ("~low", "9223372036854775807"),
     ];
-    for (expression, outcome) in table {
-        let found = printed(alloc, NUMBERS, expression)?;
-        assert_eq!(rt;
-            found.bytes(),
-            line(alloc, outcome)?.as_bytes(),
-            "{expression}"
-        );
-    }
-    Ok(())
+    come_to(&rt, rt.alloc(), NUMBERS, "", table.as_slice())
 }
 
 #[test]
 fn conditions(rt: HostRuntime) -> Result<(), Fail> {
-    let alloc = rt.alloc();
     let table = [
         ("low < big", "1"),
         ("1 < 1", "0"),
@@ -177,20 +174,11 @@ fn conditions(rt: HostRuntime) -> Result<(), Fail> {
         ("low ? 2 : 1 / 0", "2"),
         ("0 ? 1 / 0 : 3", "3"),
     ];
-    for (expression, outcome) in table {
-        let found = printed(alloc, NUMBERS, expression)?;
-        assert_eq!(rt;
-            found.bytes(),
-            line(alloc, outcome)?.as_bytes(),
-            "{expression}"
-        );
-    }
-    Ok(())
+    come_to(&rt, rt.alloc(), NUMBERS, "", table.as_slice())
 }
 
 #[test]
 fn assignments(rt: HostRuntime) -> Result<(), Fail> {
-    let alloc = rt.alloc();
     let table = [
         ("x = 3", "3 3"),
         ("x += 3", "13 13"),
@@ -225,21 +213,11 @@ fn assignments(rt: HostRuntime) -> Result<(), Fail> {
         ("q[0] = 1 / 0", "fault divzero line 2"),
         ("q[1 / 0]", "fault divzero line 2"),
     ];
-    for (expression, outcome) in table {
-        let parts = format!(in alloc; "{expression}, \" \", x")?;
-        let found = printed(alloc, PLACES, parts.as_str())?;
-        assert_eq!(rt;
-            found.bytes(),
-            line(alloc, outcome)?.as_bytes(),
-            "{expression}"
-        );
-    }
-    Ok(())
+    come_to(&rt, rt.alloc(), PLACES, ", \" \", x", table.as_slice())
 }
 
 #[test]
 fn assignments_at_the_limits(rt: HostRuntime) -> Result<(), Fail> {
-    let alloc = rt.alloc();
     let table = [
         ("low++", "-9223372036854775808"),
         ("++low", "-9223372036854775807"),
@@ -261,20 +239,11 @@ fn assignments_at_the_limits(rt: HostRuntime) -> Result<(), Fail> {
         ("big |= low", "-1"),
         ("big ^= -1", "-9223372036854775808"),
     ];
-    for (expression, outcome) in table {
-        let found = printed(alloc, NUMBERS, expression)?;
-        assert_eq!(rt;
-            found.bytes(),
-            line(alloc, outcome)?.as_bytes(),
-            "{expression}"
-        );
-    }
-    Ok(())
+    come_to(&rt, rt.alloc(), NUMBERS, "", table.as_slice())
 }
 
 #[test]
 fn order(rt: HostRuntime) -> Result<(), Fail> {
-    let alloc = rt.alloc();
     let table = [
         ("d(1) + d(2) * d(3)", "7 123"),
         ("d(1) << d(2) < d(3)", "0 123"),
@@ -289,15 +258,7 @@ fn order(rt: HostRuntime) -> Result<(), Fail> {
         ("d(0) ? d(2) : d(3)", "3 3"),
         ("noted + d(5) + noted", "10 5"),
     ];
-    for (expression, outcome) in table {
-        let parts = format!(in alloc; "{expression}, \" \", noted")?;
-        let found = printed(alloc, NOTES, parts.as_str())?;
-        assert_eq!(rt;
-            found.bytes(),
-            line(alloc, outcome)?.as_bytes(),
-            "{expression}"
-        );
-    }
+    come_to(&rt, rt.alloc(), NOTES, ", \" \", noted", table.as_slice())?;
     let table = [
         ("x + (x = 5) + x", "10 5"),
         ("a[x] + (x = 1) + a[x]", "1 1"),
@@ -305,16 +266,7 @@ fn order(rt: HostRuntime) -> Result<(), Fail> {
         ("a[x++] = x", "1 1"),
         ("x += x = 4", "4 4"),
     ];
-    for (expression, outcome) in table {
-        let parts = format!(in alloc; "{expression}, \" \", x")?;
-        let found = printed(alloc, CELLS, parts.as_str())?;
-        assert_eq!(rt;
-            found.bytes(),
-            line(alloc, outcome)?.as_bytes(),
-            "{expression}"
-        );
-    }
-    Ok(())
+    come_to(&rt, rt.alloc(), CELLS, ", \" \", x", table.as_slice())
 }
 
 #[test]
