@@ -1,6 +1,6 @@
 //! Rules of bindings, and setups.
 
-use crate::tests::checked::{NAMES, NOTHING, answer, program, told};
+use crate::tests::checked::{NAMES, NOTHING, answer, answered, program, told};
 use dsm_check::{Named, fit};
 use std::test::Fail;
 
@@ -76,11 +76,8 @@ fn bindings(rt: HostRuntime) -> Result<(), Fail> {
         ("bind(K, a, 0, 1); int h() { break; }", "unknown K 2"),
         ("int h() { break; } bind(K, a, 0, 1);", "unknown K 2"),
     ];
-    for (bindings, wanted) in table {
-        let text = format!(in alloc; "{NAMES}{NOTHING}\n{bindings}")?;
-        let found = answer(alloc, text.as_str())?;
-        assert_eq!(rt; found.as_str(), wanted, "{bindings}");
-    }
+    let before = format!(in alloc; "{NAMES}{NOTHING}\n")?;
+    answered(&rt, alloc, before.as_str(), "", table.as_slice())?;
     let text = "shared int a[4];\nlock_t L[2];\nbind(L[0], a, 0, 3);\nbind(L[1], a, 2, 2);\n\
         int main(int me, int n) { return 0; }";
     assert_eq!(rt; answer(alloc, text)?.as_str(), "overlap 2 4");

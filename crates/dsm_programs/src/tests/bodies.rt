@@ -1,8 +1,11 @@
 //! Rules of bodies.
 
-use crate::tests::checked::{NAMES, NOTHING, answer};
+use crate::tests::checked::{NAMES, NOTHING, answer, answered};
 use crate::tests::texts::repeated;
 use std::test::Fail;
+
+/// The head of the function that each processor runs.
+const MAIN: &str = "int main(int me, int n) { ";
 
 #[test]
 fn bodies(rt: HostRuntime) -> Result<(), Fail> {
@@ -95,11 +98,8 @@ fn bodies(rt: HostRuntime) -> Result<(), Fail> {
         ("1 ? k : L;", "unknown k 1"),
         ("x = L; k++;", "wrong kind L 1"),
     ];
-    for (body, wanted) in table {
-        let text = format!(in alloc; "{NAMES}int main(int me, int n) {{ {body} }}")?;
-        let found = answer(alloc, text.as_str())?;
-        assert_eq!(rt; found.as_str(), wanted, "{body}");
-    }
+    let before = format!(in alloc; "{NAMES}{MAIN}")?;
+    answered(&rt, alloc, before.as_str(), "}", table.as_slice())?;
     let table = [
         ("void h() {\nreturn 1; }", "wrong kind h 2"),
         ("void h() {\nreturn k; }", "wrong kind h 2"),
@@ -118,12 +118,7 @@ fn bodies(rt: HostRuntime) -> Result<(), Fail> {
             "outside a loop 1",
         ),
     ];
-    for (items, wanted) in table {
-        let text = format!(in alloc; "{items}{NOTHING}")?;
-        let found = answer(alloc, text.as_str())?;
-        assert_eq!(rt; found.as_str(), wanted, "{items}");
-    }
-    Ok(())
+    answered(&rt, alloc, "", NOTHING, table.as_slice())
 }
 
 #[test]
@@ -131,30 +126,21 @@ fn limits_of_a_body(rt: HostRuntime) -> Result<(), Fail> {
     let alloc = rt.alloc();
     let eight = "0, 1, 2, 3, 4, 5, 6, 7";
     let bytes = repeated(alloc, "x", 96)?;
+    let all = format!(in alloc; "print({eight});")?;
+    let nine = format!(in alloc; "print({eight}, k);")?;
+    let long = format!(in alloc; "print(\"{bytes}\");")?;
+    let longer = format!(in alloc; "print(\"{bytes}\", k, \"y\");")?;
+    let both = format!(in alloc; "print({eight}, \"{bytes}y\");")?;
+    let later = format!(in alloc; "k = 1; print({eight}, 8);")?;
     let table = [
-        (format!(in alloc; "print({eight});")?, "accepted"),
-        (
-            format!(in alloc; "print({eight}, k);")?,
-            "limit PrintParts 9",
-        ),
-        (format!(in alloc; "print(\"{bytes}\");")?, "accepted"),
-        (
-            format!(in alloc; "print(\"{bytes}\", k, \"y\");")?,
-            "limit PrintText 97",
-        ),
-        (
-            format!(in alloc; "print({eight}, \"{bytes}y\");")?,
-            "limit PrintParts 9",
-        ),
-        (
-            format!(in alloc; "k = 1; print({eight}, 8);")?,
-            "unknown k 1",
-        ),
+        (all.as_str(), "accepted"),
+        (nine.as_str(), "limit PrintParts 9"),
+        (long.as_str(), "accepted"),
+        (longer.as_str(), "limit PrintText 97"),
+        (both.as_str(), "limit PrintParts 9"),
+        (later.as_str(), "unknown k 1"),
     ];
-    for (body, wanted) in table.iter() {
-        let text = format!(in alloc; "int main(int me, int n) {{ {body} }}")?;
-        assert_eq!(rt; answer(alloc, text.as_str())?.as_str(), *wanted, "{body}");
-    }
+    answered(&rt, alloc, MAIN, "}", table.as_slice())?;
     let table = [
         ("", 192, "", "accepted"),
         ("", 193, "", "limit Slots 193"),

@@ -5,6 +5,7 @@ use dsm_check::{Checked, check};
 use dsm_parse::parse;
 use dsm_syntax::{ProgErr, lex};
 use std::alloc::{AllocError, Global};
+use std::process::Abort;
 use std::test::Fail;
 
 /// The program that does nothing.
@@ -64,4 +65,19 @@ pub fn answer(alloc: Global, text: &str) -> Result<String, Fail> {
         Ok(_) => Ok(String::from_str(alloc, "accepted")?),
         Err(refused) => Ok(told(alloc, &refused)?),
     }
+}
+
+/// Each text is refused for what stands beside it, or accepted, with this before it and that behind it.
+pub fn answered(
+    rt: &impl Abort,
+    alloc: Global,
+    before: &str,
+    behind: &str,
+    table: &[(&str, &str)],
+) -> Result<(), Fail> {
+    for (text, wanted) in table {
+        let whole = format!(in alloc; "{before}{text}{behind}")?;
+        assert_eq!(rt; answer(alloc, whole.as_str())?.as_str(), *wanted, "{text}");
+    }
+    Ok(())
 }

@@ -1,11 +1,10 @@
 //! Expressions and their trees.
 
-use crate::tests::read::read_expression;
+use crate::tests::read::expressions_are;
 use std::test::Fail;
 
 #[test]
 fn each_expression_has_its_tree(rt: HostRuntime) -> Result<(), Fail> {
-    let alloc = rt.alloc();
     let table = [
         ("1", "1"),
         ("a", "a"),
@@ -57,17 +56,11 @@ fn each_expression_has_its_tree(rt: HostRuntime) -> Result<(), Fail> {
         ("++\na", "(before Increment a@2)"),
         ("a\n++", "(behind Increment@2 a)"),
     ];
-    for (text, wanted) in table {
-        let wanted = format!(in alloc; "(do {wanted})")?;
-        let found = read_expression(alloc, text)?;
-        assert_eq!(rt; found.as_str(), wanted.as_str(), "{text}");
-    }
-    Ok(())
+    expressions_are(&rt, rt.alloc(), table.as_slice())
 }
 
 #[test]
 fn operators_group_to_the_left_and_by_their_levels(rt: HostRuntime) -> Result<(), Fail> {
-    let alloc = rt.alloc();
     let table = [
         ("a * b", "(Times a b)"),
         ("a / b", "(Divide a b)"),
@@ -127,10 +120,5 @@ fn operators_group_to_the_left_and_by_their_levels(rt: HostRuntime) -> Result<()
             "(Or (And (BitOr (BitXor (BitAnd (Equal (Less (ShiftLeft (Plus (Times a b) c) d) e) f) g) h) i) j) k)",
         ),
     ];
-    for (text, wanted) in table {
-        let wanted = format!(in alloc; "(do {wanted})")?;
-        let found = read_expression(alloc, text)?;
-        assert_eq!(rt; found.as_str(), wanted.as_str(), "{text}");
-    }
-    Ok(())
+    expressions_are(&rt, rt.alloc(), table.as_slice())
 }

@@ -1,6 +1,6 @@
 //! Rules of what stands at file scope.
 
-use crate::tests::checked::{NOTHING, answer};
+use crate::tests::checked::{NOTHING, answer, answered};
 use std::alloc::{AllocError, Global};
 use std::test::Fail;
 
@@ -44,11 +44,7 @@ fn names_of_a_file(rt: HostRuntime) -> Result<(), Fail> {
         ("bind(L, a, 0, 1); int a[0];", "wrong kind a 1"),
         ("bind(L, a, 0, 1);", "no main"),
     ];
-    for (text, wanted) in table {
-        let found = answer(alloc, text)?;
-        assert_eq!(rt; found.as_str(), wanted, "{text}");
-    }
-    Ok(())
+    answered(&rt, alloc, "", "", table.as_slice())
 }
 
 /// So many functions.

@@ -5,6 +5,7 @@ use crate::tests::shown::{show_items, show_statement};
 use dsm_parse::parse;
 use dsm_syntax::{Item, lex};
 use std::alloc::Global;
+use std::process::Abort;
 use std::test::Fail;
 
 /// A program's items, or what it is refused for.
@@ -45,8 +46,45 @@ pub fn read_body(alloc: Global, body: &str) -> Result<String, Fail> {
     Ok(out)
 }
 
-/// A statement that is this expression, or what it is refused for.
-pub fn read_expression(alloc: Global, text: &str) -> Result<String, Fail> {
-    let body = format!(in alloc; "{text};")?;
-    read_body(alloc, body.as_str())
+/// Each expression is read as the tree beside it.
+pub fn expressions_are(rt: &impl Abort, alloc: Global, table: &[(&str, &str)]) -> Result<(), Fail> {
+    for (text, wanted) in table {
+        let body = format!(in alloc; "{text};")?;
+        let wanted = format!(in alloc; "(do {wanted})")?;
+        assert_eq!(rt;
+            read_body(alloc, body.as_str())?.as_str(),
+            wanted.as_str(),
+            "{text}"
+        );
+    }
+    Ok(())
+}
+
+/// What a text is read for.
+#[derive(Clone, Copy)]
+pub enum Reading {
+    /// The items of a program.
+    Program,
+    /// The one statement of a body.
+    Body,
+    /// The refusal of a program.
+    Refusal,
+}
+
+/// Each text is read as what stands beside it.
+pub fn texts_are(
+    rt: &impl Abort,
+    alloc: Global,
+    reading: Reading,
+    table: &[(&str, &str)],
+) -> Result<(), Fail> {
+    for (text, wanted) in table {
+        let found = match reading {
+            Reading::Program => read(alloc, text)?,
+            Reading::Body => read_body(alloc, text)?,
+            Reading::Refusal => refusal(alloc, text)?,
+        };
+        assert_eq!(rt; found.as_str(), *wanted, "{text}");
+    }
+    Ok(())
 }

@@ -1,6 +1,6 @@
 //! Statements, items and their trees.
 
-use crate::tests::read::{read, read_body};
+use crate::tests::read::{Reading, texts_are};
 use std::test::Fail;
 
 #[test]
@@ -61,10 +61,7 @@ fn each_statement_has_its_tree(rt: HostRuntime) -> Result<(), Fail> {
         ("print(\"a b\");", "(print \"a b\")"),
         ("print(a, \"\", 1);", "(print a \"\" 1)"),
     ];
-    for (text, wanted) in table {
-        assert_eq!(rt; read_body(rt.alloc(), text)?.as_str(), wanted, "{text}");
-    }
-    Ok(())
+    texts_are(&rt, rt.alloc(), Reading::Body, table.as_slice())
 }
 
 #[test]
@@ -101,8 +98,5 @@ fn each_item_has_its_tree(rt: HostRuntime) -> Result<(), Fail> {
             "(data a) (function Int f) (locks l)",
         ),
     ];
-    for (text, wanted) in table {
-        assert_eq!(rt; read(rt.alloc(), text)?.as_str(), wanted, "{text}");
-    }
-    Ok(())
+    texts_are(&rt, rt.alloc(), Reading::Program, table.as_slice())
 }

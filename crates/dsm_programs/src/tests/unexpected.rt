@@ -1,6 +1,6 @@
 //! Tokens with which no program goes on.
 
-use crate::tests::read::refusal;
+use crate::tests::read::{Reading, texts_are};
 use std::test::Fail;
 
 #[test]
@@ -114,8 +114,5 @@ fn each_program_is_refused_at_its_first_fault(rt: HostRuntime) -> Result<(), Fai
         ("int a\n\n\n", first),
         ("// a\n\nint a\n// b\n", third),
     ];
-    for (text, wanted) in table {
-        assert_eq!(rt; refusal(rt.alloc(), text)?.as_str(), wanted, "{text}");
-    }
-    Ok(())
+    texts_are(&rt, rt.alloc(), Reading::Refusal, table.as_slice())
 }
