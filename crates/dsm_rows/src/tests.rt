@@ -60,7 +60,7 @@ fn call(alloc: Global, files: &mut MemFiles, sink: &mut MemSink) -> Result<Repor
 #[test]
 fn runs_print_their_lines(rt: HostRuntime) -> Result<(), Fail> {
     let alloc = rt.alloc();
-    for (program, schedule, status, units, lines) in [
+    const TABLE: &[(&str, &str, u8, u32, &str)] = &[
         (ADDER, FIRST, 0, 21, "P0: x=1\nP1: x=12\n"),
         (ADDER, SECOND, 0, 19, "P1: x=2\nP0: x=21\n"),
         (
@@ -80,7 +80,8 @@ fn runs_print_their_lines(rt: HostRuntime) -> Result<(), Fail> {
             4,
             "",
         ),
-    ] {
+    ];
+    for &(program, schedule, status, units, lines) in TABLE {
         let mut files = files(alloc, program.as_bytes(), schedule.as_bytes())?;
         let mut sink = MemSink::new(alloc, 4);
         let report = call(alloc, &mut files, &mut sink)?;

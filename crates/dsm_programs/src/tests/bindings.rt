@@ -7,7 +7,7 @@ use std::test::Fail;
 #[test]
 fn bindings(rt: HostRuntime) -> Result<(), Fail> {
     let alloc = rt.alloc();
-    let table = [
+    const TABLE: &[(&str, &str)] = &[
         ("bind(M[0], a, 0, 3);\nbind(M[1], a, 2, 2);", "overlap 3 3"),
         ("bind(L, x, 0, 1); bindeach(M, a, 2);", "accepted"),
         ("bind(M[1], a, 3, 1); bindeach(M, a, 2);", "overlap 4 2"),
@@ -77,7 +77,7 @@ fn bindings(rt: HostRuntime) -> Result<(), Fail> {
         ("int h() { break; } bind(K, a, 0, 1);", "unknown K 2"),
     ];
     let before = format!(in alloc; "{NAMES}{NOTHING}\n")?;
-    answered(&rt, alloc, before.as_str(), "", table.as_slice())?;
+    answered(&rt, alloc, before.as_str(), "", TABLE)?;
     let text = "shared int a[4];\nlock_t L[2];\nbind(L[0], a, 0, 3);\nbind(L[1], a, 2, 2);\n\
         int main(int me, int n) { return 0; }";
     assert_eq!(rt; answer(alloc, text)?.as_str(), "overlap 2 4");

@@ -10,7 +10,7 @@ const MAIN: &str = "int main(int me, int n) { ";
 #[test]
 fn bodies(rt: HostRuntime) -> Result<(), Fail> {
     let alloc = rt.alloc();
-    let table = [
+    const STATEMENTS: &[(&str, &str)] = &[
         ("int i = me + x + p + a[i] + q[n] + f(1);", "accepted"),
         ("int me;", "twice me 1"),
         ("int i; int i;", "twice i 1"),
@@ -99,8 +99,8 @@ fn bodies(rt: HostRuntime) -> Result<(), Fail> {
         ("x = L; k++;", "wrong kind L 1"),
     ];
     let before = format!(in alloc; "{NAMES}{MAIN}")?;
-    answered(&rt, alloc, before.as_str(), "}", table.as_slice())?;
-    let table = [
+    answered(&rt, alloc, before.as_str(), "}", STATEMENTS)?;
+    const ITEMS: &[(&str, &str)] = &[
         ("void h() {\nreturn 1; }", "wrong kind h 2"),
         ("void h() {\nreturn k; }", "wrong kind h 2"),
         ("void h() { return; }", "accepted"),
@@ -118,7 +118,7 @@ fn bodies(rt: HostRuntime) -> Result<(), Fail> {
             "outside a loop 1",
         ),
     ];
-    answered(&rt, alloc, "", NOTHING, table.as_slice())
+    answered(&rt, alloc, "", NOTHING, ITEMS)
 }
 
 #[test]

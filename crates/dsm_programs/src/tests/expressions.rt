@@ -5,7 +5,7 @@ use std::test::Fail;
 
 #[test]
 fn each_expression_has_its_tree(rt: HostRuntime) -> Result<(), Fail> {
-    let table = [
+    const TABLE: &[(&str, &str)] = &[
         ("1", "1"),
         ("a", "a"),
         ("a[i]", "(at a i)"),
@@ -56,12 +56,12 @@ fn each_expression_has_its_tree(rt: HostRuntime) -> Result<(), Fail> {
         ("++\na", "(before Increment a@2)"),
         ("a\n++", "(behind Increment@2 a)"),
     ];
-    expressions_are(&rt, rt.alloc(), table.as_slice())
+    expressions_are(&rt, rt.alloc(), TABLE)
 }
 
 #[test]
 fn operators_group_to_the_left_and_by_their_levels(rt: HostRuntime) -> Result<(), Fail> {
-    let table = [
+    const TABLE: &[(&str, &str)] = &[
         ("a * b", "(Times a b)"),
         ("a / b", "(Divide a b)"),
         ("a % b", "(Remainder a b)"),
@@ -120,5 +120,5 @@ fn operators_group_to_the_left_and_by_their_levels(rt: HostRuntime) -> Result<()
             "(Or (And (BitOr (BitXor (BitAnd (Equal (Less (ShiftLeft (Plus (Times a b) c) d) e) f) g) h) i) j) k)",
         ),
     ];
-    expressions_are(&rt, rt.alloc(), table.as_slice())
+    expressions_are(&rt, rt.alloc(), TABLE)
 }

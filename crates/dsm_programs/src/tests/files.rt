@@ -7,7 +7,7 @@ use std::test::Fail;
 #[test]
 fn names_of_a_file(rt: HostRuntime) -> Result<(), Fail> {
     let alloc = rt.alloc();
-    let table = [
+    const TABLE: &[(&str, &str)] = &[
         ("int a; int a;", "twice a 1"),
         ("int a, b,\na;", "twice a 2"),
         ("lock_t a;\nbarrier_t a;", "twice a 2"),
@@ -44,7 +44,7 @@ fn names_of_a_file(rt: HostRuntime) -> Result<(), Fail> {
         ("bind(L, a, 0, 1); int a[0];", "wrong kind a 1"),
         ("bind(L, a, 0, 1);", "no main"),
     ];
-    answered(&rt, alloc, "", "", table.as_slice())
+    answered(&rt, alloc, "", "", TABLE)
 }
 
 /// So many functions.

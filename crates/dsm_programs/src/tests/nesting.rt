@@ -20,7 +20,7 @@ fn body_refusal(alloc: Global, head: &str, inner: &str, end: &str) -> Result<Str
 fn functions_may_be_64_nodes_high(rt: HostRuntime) -> Result<(), Fail> {
     let alloc = rt.alloc();
     // What stands first, what is repeated, what comes between, what is repeated behind, the rest, and how often at most.
-    let table = [
+    const TABLE: &[(&str, &str, &str, &str, &str, usize)] = &[
         ("", "{", "", "}", "", 63),
         ("", "while (a) ", ";", "", "", 62),
         ("", "for (;;) ", ";", "", "", 62),
@@ -44,7 +44,7 @@ fn functions_may_be_64_nodes_high(rt: HostRuntime) -> Result<(), Fail> {
         ("acquire(", "a[", "a", "]", ");", 61),
         ("while ", "(", "1", ")", ";", 62),
     ];
-    for (head, opening, middle, closing, end, most) in table {
+    for &(head, opening, middle, closing, end, most) in TABLE {
         let before = repeated(alloc, opening, most)?;
         let behind = repeated(alloc, closing, most)?;
         let inner = format!(in alloc; "{before}{middle}{behind}")?;
@@ -61,7 +61,7 @@ fn functions_may_be_64_nodes_high(rt: HostRuntime) -> Result<(), Fail> {
 fn too_high_is_refused_where_it_is_certain(rt: HostRuntime) -> Result<(), Fail> {
     let alloc = rt.alloc();
     // What is repeated, how often, what may come then, and what is too high at its last token.
-    let table = [
+    const TABLE: &[(&str, usize, &str, &str)] = &[
         ("{", 63, "}", "{"),
         ("{", 63, "}", ";"),
         ("{", 63, "}", "a"),
@@ -87,7 +87,7 @@ fn too_high_is_refused_where_it_is_certain(rt: HostRuntime) -> Result<(), Fail> 
         ("a = ", 61, "a", "("),
         ("a ? b : ", 61, "a", "a *"),
     ];
-    for (before, times, allowed, refused) in table {
+    for &(before, times, allowed, refused) in TABLE {
         let before = repeated(alloc, before, times)?;
         let text = format!(in alloc; "int f() {{{before}{allowed}")?;
         assert_eq!(rt;

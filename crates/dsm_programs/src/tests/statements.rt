@@ -5,7 +5,7 @@ use std::test::Fail;
 
 #[test]
 fn each_statement_has_its_tree(rt: HostRuntime) -> Result<(), Fail> {
-    let table = [
+    const TABLE: &[(&str, &str)] = &[
         (";", "(empty)"),
         ("{}", "(block)"),
         ("{;{}}", "(block (empty) (block))"),
@@ -61,12 +61,12 @@ fn each_statement_has_its_tree(rt: HostRuntime) -> Result<(), Fail> {
         ("print(\"a b\");", "(print \"a b\")"),
         ("print(a, \"\", 1);", "(print a \"\" 1)"),
     ];
-    texts_are(&rt, rt.alloc(), Reading::Body, table.as_slice())
+    texts_are(&rt, rt.alloc(), Reading::Body, TABLE)
 }
 
 #[test]
 fn each_item_has_its_tree(rt: HostRuntime) -> Result<(), Fail> {
-    let table = [
+    const TABLE: &[(&str, &str)] = &[
         ("", ""),
         ("// no program\n", ""),
         ("int a;", "(data a)"),
@@ -98,5 +98,5 @@ fn each_item_has_its_tree(rt: HostRuntime) -> Result<(), Fail> {
             "(data a) (function Int f) (locks l)",
         ),
     ];
-    texts_are(&rt, rt.alloc(), Reading::Program, table.as_slice())
+    texts_are(&rt, rt.alloc(), Reading::Program, TABLE)
 }

@@ -79,7 +79,7 @@ fn come_to(
 
 #[test]
 fn numbers(rt: HostRuntime) -> Result<(), Fail> {
-    let table = [
+    const TABLE: &[(&str, &str)] = &[
         ("2 + 3", "5"),
         ("low + big", "-1"),
         ("big + 1", "fault overflow line 2"),
@@ -112,12 +112,12 @@ fn numbers(rt: HostRuntime) -> Result<(), Fail> {
         ("-low", "fault overflow line 2"),
         ("+low", "-9223372036854775808"),
     ];
-    come_to(&rt, rt.alloc(), NUMBERS, "", table.as_slice())
+    come_to(&rt, rt.alloc(), NUMBERS, "", TABLE)
 }
 
 #[test]
 fn shifts_and_bits(rt: HostRuntime) -> Result<(), Fail> {
-    let table = [
+    const TABLE: &[(&str, &str)] = &[
         ("5 << 0", "5"),
         ("1 << 62", "4611686018427387904"),
         ("1 << 63", "fault overflow line 2"),
@@ -143,12 +143,12 @@ fn shifts_and_bits(rt: HostRuntime) -> Result<(), Fail> {
         ("~0", "-1"),
         ("~low", "9223372036854775807"),
     ];
-    come_to(&rt, rt.alloc(), NUMBERS, "", table.as_slice())
+    come_to(&rt, rt.alloc(), NUMBERS, "", TABLE)
 }
 
 #[test]
 fn conditions(rt: HostRuntime) -> Result<(), Fail> {
-    let table = [
+    const TABLE: &[(&str, &str)] = &[
         ("low < big", "1"),
         ("1 < 1", "0"),
         ("1 <= 1", "1"),
@@ -174,12 +174,12 @@ fn conditions(rt: HostRuntime) -> Result<(), Fail> {
         ("low ? 2 : 1 / 0", "2"),
         ("0 ? 1 / 0 : 3", "3"),
     ];
-    come_to(&rt, rt.alloc(), NUMBERS, "", table.as_slice())
+    come_to(&rt, rt.alloc(), NUMBERS, "", TABLE)
 }
 
 #[test]
 fn assignments(rt: HostRuntime) -> Result<(), Fail> {
-    let table = [
+    const TABLE: &[(&str, &str)] = &[
         ("x = 3", "3 3"),
         ("x += 3", "13 13"),
         ("x -= 3", "7 7"),
@@ -213,12 +213,12 @@ fn assignments(rt: HostRuntime) -> Result<(), Fail> {
         ("q[0] = 1 / 0", "fault divzero line 2"),
         ("q[1 / 0]", "fault divzero line 2"),
     ];
-    come_to(&rt, rt.alloc(), PLACES, ", \" \", x", table.as_slice())
+    come_to(&rt, rt.alloc(), PLACES, ", \" \", x", TABLE)
 }
 
 #[test]
 fn assignments_at_the_limits(rt: HostRuntime) -> Result<(), Fail> {
-    let table = [
+    const TABLE: &[(&str, &str)] = &[
         ("low++", "-9223372036854775808"),
         ("++low", "-9223372036854775807"),
         ("big--", "9223372036854775807"),
@@ -239,12 +239,12 @@ fn assignments_at_the_limits(rt: HostRuntime) -> Result<(), Fail> {
         ("big |= low", "-1"),
         ("big ^= -1", "-9223372036854775808"),
     ];
-    come_to(&rt, rt.alloc(), NUMBERS, "", table.as_slice())
+    come_to(&rt, rt.alloc(), NUMBERS, "", TABLE)
 }
 
 #[test]
 fn order(rt: HostRuntime) -> Result<(), Fail> {
-    let table = [
+    const NOTED: &[(&str, &str)] = &[
         ("d(1) + d(2) * d(3)", "7 123"),
         ("d(1) << d(2) < d(3)", "0 123"),
         ("h(d(1), d(2), d(3))", "6 123"),
@@ -258,21 +258,21 @@ fn order(rt: HostRuntime) -> Result<(), Fail> {
         ("d(0) ? d(2) : d(3)", "3 3"),
         ("noted + d(5) + noted", "10 5"),
     ];
-    come_to(&rt, rt.alloc(), NOTES, ", \" \", noted", table.as_slice())?;
-    let table = [
+    come_to(&rt, rt.alloc(), NOTES, ", \" \", noted", NOTED)?;
+    const LOADED: &[(&str, &str)] = &[
         ("x + (x = 5) + x", "10 5"),
         ("a[x] + (x = 1) + a[x]", "1 1"),
         ("x++ + x++", "1 2"),
         ("a[x++] = x", "1 1"),
         ("x += x = 4", "4 4"),
     ];
-    come_to(&rt, rt.alloc(), CELLS, ", \" \", x", table.as_slice())
+    come_to(&rt, rt.alloc(), CELLS, ", \" \", x", LOADED)
 }
 
 #[test]
 fn lines_of_faults(rt: HostRuntime) -> Result<(), Fail> {
     let alloc = rt.alloc();
-    let table = [
+    const TABLE: &[(&str, &str)] = &[
         ("print(1\n/\n0);", "fault divzero line 6"),
         (
             "int y;\ny\n+=\n9223372036854775807 +\n1;",
@@ -312,7 +312,7 @@ fn lines_of_faults(rt: HostRuntime) -> Result<(), Fail> {
         ("release(\nL\n);", "fault notheld line 6"),
         ("print(f(254)); print(f(255));", "0\nP0: fault depth line 3"),
     ];
-    for (body, outcome) in table {
+    for (body, outcome) in TABLE {
         let found = done(alloc, FAULTY, body)?;
         assert_eq!(rt; found.bytes(), line(alloc, outcome)?.as_bytes(), "{body}");
     }
@@ -328,7 +328,7 @@ fn lines_of_faults(rt: HostRuntime) -> Result<(), Fail> {
 #[test]
 fn statements(rt: HostRuntime) -> Result<(), Fail> {
     let alloc = rt.alloc();
-    let table = [
+    const TABLE: &[(&str, &str)] = &[
         (
             "for (int i = 0; i < 3; i++) { int y; y++; print(i, y); }",
             "P0: 01\nP0: 11\nP0: 21\n",
@@ -355,7 +355,7 @@ fn statements(rt: HostRuntime) -> Result<(), Fail> {
         ("return 7; print(1);", ""),
         ("print(me, n);", "P0: 02\n"),
     ];
-    for (body, wanted) in table {
+    for (body, wanted) in TABLE {
         assert_eq!(rt;
             done(alloc, FUNCTIONS, body)?.bytes(),
             wanted.as_bytes(),

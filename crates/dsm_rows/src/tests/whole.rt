@@ -63,7 +63,7 @@ fn call(
 #[test]
 fn checks_accept_or_refuse(rt: HostRuntime) -> Result<(), Fail> {
     let alloc = rt.alloc();
-    for (program, procs, status, message) in [
+    const TABLE: &[(&str, &str, u8, &str)] = &[
         (COUNTER, "2", 0, "ok\n"),
         (COUNTER, "16", 0, "ok\n"),
         (OWNED, "4", 0, "ok\n"),
@@ -100,7 +100,8 @@ fn checks_accept_or_refuse(rt: HostRuntime) -> Result<(), Fail> {
         (COUNTER, "+2", 5, "dsm: words refused\n"),
         (COUNTER, "2 2", 5, "dsm: words refused\n"),
         (COUNTER, "", 5, "dsm: words refused\n"),
-    ] {
+    ];
+    for &(program, procs, status, message) in TABLE {
         let text = format!(in alloc; "check prog --procs {procs}")?;
         let mut files = files(alloc, program, "")?;
         let mut sink = MemSink::new(alloc, 4096);
@@ -116,7 +117,7 @@ fn checks_accept_or_refuse(rt: HostRuntime) -> Result<(), Fail> {
 #[test]
 fn runs_over_one_memory_print_their_lines(rt: HostRuntime) -> Result<(), Fail> {
     let alloc = rt.alloc();
-    for (program, picks, status, units, lines) in [
+    const TABLE: &[(&str, &str, u8, u32, &str)] = &[
         (
             COUNTER,
             "procs 2\nall 40\n",
@@ -158,7 +159,8 @@ fn runs_over_one_memory_print_their_lines(rt: HostRuntime) -> Result<(), Fail> {
             "P0: fault depth line 1\n",
         ),
         (DEEP, "procs 2\npick 0 255\n", 2, 255, ""),
-    ] {
+    ];
+    for &(program, picks, status, units, lines) in TABLE {
         let mut files = files(alloc, program, picks)?;
         let mut sink = MemSink::new(alloc, 4);
         let report = call(alloc, "plain prog picks", &mut files, &mut sink)?;
@@ -173,7 +175,7 @@ fn runs_over_one_memory_print_their_lines(rt: HostRuntime) -> Result<(), Fail> {
 #[test]
 fn refusals_come_in_their_order(rt: HostRuntime) -> Result<(), Fail> {
     let alloc = rt.alloc();
-    for (text, program, picks, status, message) in [
+    const TABLE: &[(&str, &str, &str, u8, &str)] = &[
         ("", COUNTER, "procs 2\n", 5, "dsm: words refused\n"),
         ("check", COUNTER, "procs 2\n", 5, "dsm: words refused\n"),
         ("plain", COUNTER, "procs 2\n", 5, "dsm: words refused\n"),
@@ -276,7 +278,8 @@ fn refusals_come_in_their_order(rt: HostRuntime) -> Result<(), Fail> {
             4,
             "dsm: schedule refused: too many units, 1000000\n",
         ),
-    ] {
+    ];
+    for &(text, program, picks, status, message) in TABLE {
         let mut files = files(alloc, program, picks)?;
         let mut sink = MemSink::new(alloc, 4096);
         let report = call(alloc, text, &mut files, &mut sink)?;
