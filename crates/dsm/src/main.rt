@@ -19,6 +19,6 @@ fn main(rt: HostRuntime) -> ExitCode {
     let words = words(&rt).unwrap_or(Vec::new(alloc));
     let mut out = StdSink::new(rt.stdout());
     let mut files = HostFiles::new(rt);
-    let report = run_tool(alloc, words.as_slice(), &mut files, &mut out);
+    let report = run_tool(alloc, &words, &mut files, &mut out);
     ExitCode::from(report.status.number())
 }

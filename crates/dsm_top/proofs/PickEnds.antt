@@ -1,9 +1,10 @@
 -- What a run by picks leaves at its end.
 use Rattle.std.specs.Prelude.{◌≡◌, ◌≤◌, ℕ, List, length, take}
 use Rattle.std.proofs.Common.{refl, sym, ap, ◌∙◌}
-use Rattle.dsm_base.specs.Causes.{Rose}
+use Rattle.dsm_base.specs.Causes.{Rose, IfFailed}
+use Rattle.dsm_base.specs.declared.errors.ReadErr.{ReadErr}
 use Rattle.dsm_base.specs.Output.{printed_lines}
-use Rattle.dsm_base.specs.Sink.{appended, TakesPart}
+use Rattle.dsm_base.specs.Sink.{appended}
 use Rattle.dsm_base.specs.declared.names.Proc.{Proc}
 use Rattle.dsm_base.specs.declared.setup.Setup.{Setup}
 use Rattle.dsm_check.specs.Programs.{Program}
@@ -12,31 +13,30 @@ use Rattle.dsm_world.specs.Finished.{finished_by}
 use Rattle.dsm_world.specs.declared.world.Finished.{Finished}
 use Rattle.dsm_top.specs.declared.plain.PlainRun.{PlainRun}
 use Rattle.dsm_top.specs.declared.status.Status.{Status}
-use Rattle.dsm_top.specs.Ended.{Left, TakesFront, IsRunByFirst, PlainWhole, RanPlain, status_of}
-use Rattle.dsm_top.specs.PickRuns.{program_run}
+use Rattle.dsm_top.specs.Statuses.{status_of_finished, status_of_write}
+use Rattle.dsm_top.specs.Ended.{Left, IsRunByFirst, RanPlain}
+use Rattle.dsm_top.specs.Runs.{WroteCut}
+use Rattle.dsm_top.specs.PickRuns.{endings_of, program_run}
 use Rattle.dsm_top.specs.PlainRuns.{endings_in, IsWholeRun, IsAt}
+use Rattle.dsm_top.proofs.Went.{went_through}
 
 module _ (program : Program) (procs : ℕ) (setup : Setup) (is_setup : IsSetupOf program procs setup) (picks : List Proc) (left : Left) (within : left.units ≤ length picks) where
   is_run : IsRunByFirst program procs picks left.units (program_run program setup (take left.units picks))
   is_run = record { within = within; is_run = record { setup = setup; is_setup = is_setup; is_run = refl } }
 
-  by_status : (finished : Finished) → PlainWhole program procs picks left finished → RanPlain program procs picks left (status_of finished)
-  by_status Finished.Done ran = ran
-  by_status Finished.Stopped ran = ran
-  by_status Finished.Unfinished ran = ran
+  pub plain_whole : (run : PlainRun) (finished : Finished) (status : Status) → finished ≡ finished_by (length run.endings.list.items) (endings_in run.endings) → status ≡ status_of_finished finished → IsWholeRun run →
+      IsAt program setup run (program_run program setup (take left.units picks)) → left.units ≡ length picks → left.after ≡ appended left.before (printed_lines (program_run program setup (take left.units picks))) → RanPlain program procs picks left status
+  plain_whole run finished status is named whole at all wrote =
+      let turns = program_run program setup (take left.units picks) in
+      let stands : finished_by procs (endings_of turns) ≡ finished =
+      sym (is ∙ (λ i. finished_by ((whole.endings ∙ (ap (λ (s : Setup). s.procs) at.setup_is ∙ is_setup.procs)) i) (at.endings i))) in
+      record {
+        turns = turns;
+        is_run = is_run;
+        went = went_through (length picks) (finished_by procs (endings_of turns)) finished (printed_lines turns) left status stands named all wrote;
+      }
 
-  pub plain_whole : (run : PlainRun) (finished : Finished) → finished ≡ finished_by (length run.endings.list.items) (endings_in run.endings) → IsWholeRun run → IsAt program setup run (program_run program setup (take left.units picks))
-      → left.units ≡ length picks → left.after ≡ appended left.before (printed_lines (program_run program setup (take left.units picks))) → RanPlain program procs picks left (status_of finished)
-  plain_whole run finished is whole at all wrote = by_status finished record {
-    turns = program_run program setup (take left.units picks);
-    is_run = is_run;
-    all = all;
-    stands = sym (is ∙ (λ i. finished_by ((whole.endings ∙ (ap (λ (s : Setup). s.procs) at.setup_is ∙ is_setup.procs)) i) (at.endings i)));
-    wrote = wrote;
-  }
-
-  pub plain_cut : TakesPart left.before left.after (printed_lines (program_run program setup (take left.units picks))) → Rose left.faults_before left.faults_after → RanPlain program procs picks left Status.WriteFault
-  plain_cut part rose = record { turns = program_run program setup (take left.units picks); is_run = is_run; wrote = part; rose = rose }
-
-  pub plain_short : TakesFront left.before left.after (printed_lines (program_run program setup (take left.units picks))) → RanPlain program procs picks left Status.Memory
-  plain_short front = record { turns = program_run program setup (take left.units picks); is_run = is_run; wrote = front }
+  -- what the sink has where the run was cut short
+  pub plain_cut : (error : ReadErr) → WroteCut left.before left.after (printed_lines (program_run program setup (take left.units picks))) error → IfFailed error (Rose left.faults_before left.faults_after) → RanPlain program procs picks left (status_of_write error)
+  plain_cut ReadErr.Failed cut rose = record { turns = program_run program setup (take left.units picks); is_run = is_run; went = record { part = cut; rose = rose } }
+  plain_cut ReadErr.Memory cut rose = record { turns = program_run program setup (take left.units picks); is_run = is_run; went = cut }

@@ -1,6 +1,7 @@
 -- What the tokens of a text tell of it.
-use Rattle.std.specs.Prelude.{◌≡◌, ◌≢◌, ◌⊎◌, ℕ, List, Result, Ok, Err, IfOk, IfErr}
-use Rattle.std.proofs.Common.{inl, inr, subst, sym, refl}
+use Rattle.std.specs.Prelude.{◌≡◌, ◌≢◌, ◌⊎◌, ℕ, List, None, Result, Ok, Err, IfOk, IfErr}
+use Rattle.std.proofs.Common.{inl, inr, subst, sym, ap, refl}
+use Rattle.dsm_base.specs.declared.act.SchedErr.{SchedErr}
 use Rattle.dsm_syntax.specs.declared.token.Token.{Token}
 use Rattle.dsm_syntax.specs.declared.errors.ProgErr.{ProgErr}
 use Rattle.dsm_syntax.specs.Texts.{IsLexed, IsAnswer, IsRefused as IsTextRefused}
@@ -15,9 +16,15 @@ use Rattle.dsm_small.specs.declared.tree.SmallProgram.{SmallProgram}
 use Rattle.dsm_small.specs.Spelling.{IsSpelled}
 use Rattle.dsm_small.specs.Reader.{IsAnswerTo}
 use Rattle.dsm_top.specs.declared.status.Status.{Status}
-use Rattle.dsm_top.specs.Accepted.{Contents, IsProgramText}
-use Rattle.dsm_top.specs.Refusals.{Given, RefusesProgram, OrMemory, status_of_error, IsNoProgram, IsReadProgram, IsUnchecked, by_tokens, by_tree, by_rules}
-use Rattle.dsm_top.specs.Prepared.{GivesProgram}
+use Rattle.dsm_words.specs.Entries.{Gives}
+use Rattle.dsm_picks.specs.declared.picks.PickEntry.{PickEntry}
+use Rattle.dsm_picks.specs.Entries.{picks_said}
+use Rattle.dsm_sched.specs.Entries.{units_of_text}
+use Rattle.dsm_sched.specs.Reading.{IsRead}
+use Rattle.dsm_top.specs.Accepted.{IsProgramText, IsScheduleText}
+use Rattle.dsm_top.specs.Statuses.{status_of_program, status_of_schedule}
+use Rattle.dsm_top.specs.Refusals.{RefusesSmall, RefusesSchedule, RefusesProgram, RefusesPicks, IsNoProgram, IsReadProgram, IsUnchecked, by_tokens, by_tree, by_rules}
+use Rattle.dsm_top.specs.Prepared.{Span, GivesProgram, RefusesIn}
 
 same_tokens : (result : Result (List Token) ProgErr) (tokens other : List Token) → result ≡ Ok tokens → IsAnswer result (Ok other) → tokens ≡ other
 same_tokens result tokens other is (inl answer) = cc (is, answer)
@@ -62,16 +69,54 @@ rules_say text tokens items (Ok program) lexed spelled accepted refused =
     record { tokens = tokens; lexed = lexed; items = items; spelled = spelled; is_checked = accepted }
 rules_say text tokens items (Err error) lexed spelled accepted refused = no_rules text tokens items error lexed spelled refused
 
-pub error_status : (error : ProgErr) → (error ≡ ProgErr.Memory → ⊥) → Status.ProgramRefused error ≡ status_of_error error
-error_status ProgErr.Memory other = absurd (other refl)
-error_status error other = refl
+-- Statuses of readers' errors.
 
--- a text that was read, and for which a reader of programs answers an error
-pub unaccepted : (given : Given) (name slice text : List ℕ) (files : Contents) (error : ProgErr) → given.files ≡ files → IsProgramText files name text → slice ≡ text → GivesProgram slice (Err error)
-    → OrMemory (RefusesProgram given name) (status_of_error error)
-unaccepted given name slice text files ProgErr.Memory same is_read here gives = tt
-unaccepted given name slice text files error same is_read here gives = record {
-  text = text;
-  is_read = subst (λ held. IsProgramText held name text) (sym same) is_read;
-  is_unchecked = subst (λ bytes. IsUnchecked bytes error) here gives;
-}
+pub program_status : (error : ProgErr) → (error ≡ ProgErr.Memory → ⊥) → Status.ProgramRefused error ≡ status_of_program error
+program_status ProgErr.Memory other = absurd (other refl)
+program_status error other = refl
+
+pub schedule_status : (error : SchedErr) → (error ≡ SchedErr.Memory → ⊥) → Status.ScheduleRefused error ≡ status_of_schedule error
+schedule_status SchedErr.Memory other = absurd (other refl)
+schedule_status error other = refl
+
+-- a text that was read in a part of a call, and for which its reader answers an error
+module _ (span : Span) (name slice text : List ℕ) (same : slice ≡ text) where
+  pub refuses_program : (error : ProgErr) → IsProgramText span.files name text → GivesProgram slice (Err error) → RefusesIn span (λ given. RefusesProgram given name) (status_of_program error)
+  refuses_program ProgErr.Memory is_read gives given part = tt
+  refuses_program error is_read gives given part = record {
+    text = text;
+    is_read = subst (λ held. IsProgramText held name text) (sym part.same) is_read;
+    is_unchecked = subst (λ bytes. IsUnchecked bytes error) same gives;
+  }
+
+  pub refuses_small : (error : ProgErr) → IsProgramText span.files name text → IsReadProgram slice (Err error) → RefusesIn span (λ given. RefusesSmall given name) (status_of_program error)
+  refuses_small ProgErr.Memory is_read gives given part = tt
+  refuses_small (ProgErr.NotBuilt line) is_read gives given part = (
+    ap ProgErr.NotBuilt gives.0,
+    record {
+      text = text;
+      is_read = subst (λ held. IsProgramText held name text) (sym part.same) is_read;
+      is_none = subst IsNoProgram same gives.1;
+    },
+  )
+  refuses_small _ is_read gives given part = absurd gives
+
+  pub refuses_schedule : (error : SchedErr) → IsScheduleText span.files name text → IsRead slice (Err error) → RefusesIn span (λ given. RefusesSchedule given name) (status_of_schedule error)
+  refuses_schedule SchedErr.Memory is_read gives given part = tt
+  refuses_schedule (SchedErr.NotBuilt line) is_read gives given part = (
+    ap SchedErr.NotBuilt gives.0,
+    record {
+      text = text;
+      is_read = subst (λ held. IsScheduleText held name text) (sym part.same) is_read;
+      is_none = subst (λ bytes. units_of_text bytes ≡ None) same gives.1;
+    },
+  )
+  refuses_schedule _ is_read gives given part = absurd gives
+
+  pub refuses_picks : {X : Type 0} (view : X → ℕ × List PickEntry) (error : SchedErr) → IsScheduleText span.files name text → Gives view (Err error) (picks_said slice) → RefusesIn span (λ given. RefusesPicks given name) (status_of_schedule error)
+  refuses_picks view SchedErr.Memory is_read gives given part = tt
+  refuses_picks view error is_read gives given part = record {
+    text = text;
+    is_read = subst (λ held. IsScheduleText held name text) (sym part.same) is_read;
+    is_refused = subst (λ bytes. picks_said bytes ≡ Err error) same gives;
+  }

@@ -2,7 +2,8 @@
 use Rattle.std.specs.Prelude.{◌≡◌, ◌≤◌, ℕ, Bool, true, false, if◌then◌else◌, List, [], ◌∷◌, length, take, reverse, Option, Result, IfOk, IsTrue}
 use Rattle.std.specs.List.{AllByRecursion}
 use Rattle.std.proofs.Common.{refl, sym, ap, ◌∙◌, arith, subst}
-use Rattle.dsm_base.specs.Causes.{Rose}
+use Rattle.dsm_base.specs.Causes.{Rose, IfFailed}
+use Rattle.dsm_base.specs.declared.errors.ReadErr.{ReadErr}
 use Rattle.dsm_base.specs.Sink.{appended, TakesPart}
 use Rattle.dsm_base.specs.declared.act.Act.{Act}
 use Rattle.dsm_base.specs.declared.errors.MemFault.{MemFault}
@@ -20,9 +21,11 @@ use Rattle.dsm_world.specs.declared.world.Finished.{Finished}
 use Rattle.dsm_world.specs.Finished.{finished_by}
 use Rattle.dsm_world.specs.World.{setup_of, groups_of, units_of}
 use Rattle.dsm_top.specs.declared.status.Status.{Status}
-use Rattle.dsm_top.specs.Ended.{Left, TakesFront, IsRun, endings_in, lines_of_trace, RanWhole, Ran, status_of}
-use Rattle.dsm_top.specs.Runs.{SmallWorld, first_by, first_in, FitsFirst}
+use Rattle.dsm_top.specs.Statuses.{status_of_finished, status_of_write}
+use Rattle.dsm_top.specs.Ended.{Left, TakesFront, IsRun, endings_in, lines_of_trace, Ran}
+use Rattle.dsm_top.specs.Runs.{SmallWorld, first_by, first_in, FitsFirst, WroteCut}
 use Rattle.dsm_top.proofs.Pieces.{appended-nil}
+use Rattle.dsm_top.proofs.Went.{went_through}
 use Rattle.dsm_top.proofs.Units.{all_front}
 
 -- the law of locks, for threads of small programs
@@ -53,39 +56,39 @@ module _ (program : SmallProgram) (schedule : List Act) (law : Law) (all_within 
         let at_trace = subst (λ t. FitsUnits (small_setup program 2 refl) (small_first program 2) small_semantics (reverse (take left.units schedule)) t) (sym trace) at_units in
         is_run left.units left.trace (omega (arith, within, units)) at_trace
 
-    by_status : (finished : Finished) → RanWhole program schedule left finished → Ran program schedule left (status_of finished)
-    by_status Finished.Done ran = ran
-    by_status Finished.Stopped ran = ran
-    by_status Finished.Unfinished ran = ran
+    pub ran_whole : (finished : Finished) (status : Status) → finished ≡ finished_by (setup_of world).procs (endings_in (groups_of world)) → status ≡ status_of_finished finished →
+        units_of world ≡ length schedule → left.after ≡ appended left.before (lines_of_trace (groups_of world)) → Ran program schedule left status
+    ran_whole finished status is named all wrote =
+        let stands = ap (λ t. finished_by 2 (endings_in t)) trace ∙ (ap (λ s. finished_by s.procs (endings_in (groups_of world))) (sym setup) ∙ sym is) in
+        record {
+          is_run = run;
+          went = went_through (length schedule) (finished_by 2 (endings_in left.trace)) finished (lines_of_trace left.trace) left status stands named (units ∙ all)
+              (wrote ∙ ap (λ t. appended left.before (lines_of_trace t)) (sym trace));
+        }
 
-    pub ran_whole : (finished : Finished) → finished ≡ finished_by (setup_of world).procs (endings_in (groups_of world)) → units_of world ≡ length schedule →
-        left.after ≡ appended left.before (lines_of_trace (groups_of world)) → Ran program schedule left (status_of finished)
-    ran_whole finished is all wrote = by_status finished record {
-      run = run;
-      all = units ∙ all;
-      stands = ap (λ t. finished_by 2 (endings_in t)) trace ∙ (ap (λ s. finished_by s.procs (endings_in (groups_of world))) (sym setup) ∙ sym is);
-      wrote = wrote ∙ ap (λ t. appended left.before (lines_of_trace t)) (sym trace);
-    }
-
-    pub ran_cut : TakesPart left.before left.after (lines_of_trace (groups_of world)) → Rose left.faults_before left.faults_after → Ran program schedule left Status.WriteFault
+    ran_cut : TakesPart left.before left.after (lines_of_trace (groups_of world)) → Rose left.faults_before left.faults_after → Ran program schedule left Status.WriteFault
     ran_cut part rose = record {
-      run = run;
-      wrote = subst (λ t. TakesPart left.before left.after (lines_of_trace t)) (sym trace) part;
-      rose = rose;
+      is_run = run;
+      went = record { part = subst (λ t. TakesPart left.before left.after (lines_of_trace t)) (sym trace) part; rose = rose };
     }
 
-    pub ran_short : TakesFront left.before left.after (lines_of_trace (groups_of world)) → Ran program schedule left Status.Memory
+    ran_short : TakesFront left.before left.after (lines_of_trace (groups_of world)) → Ran program schedule left Status.Memory
     ran_short front = record {
-      run = run;
-      wrote = subst (λ t. TakesFront left.before left.after (lines_of_trace t)) (sym trace) front;
+      is_run = run;
+      went = subst (λ t. TakesFront left.before left.after (lines_of_trace t)) (sym trace) front;
     }
+
+    -- what the sink has where the run was cut short
+    pub cut_by : (error : ReadErr) → WroteCut left.before left.after (lines_of_trace (groups_of world)) error → IfFailed error (Rose left.faults_before left.faults_after) → Ran program schedule left (status_of_write error)
+    cut_by ReadErr.Failed cut rose = ran_cut cut rose
+    cut_by ReadErr.Memory cut rose = ran_short cut
 
   -- nothing was applied
   pub ran_none : (before : Option (List ℕ)) (faults_before faults_after : ℕ) →
       Ran program schedule record { before = before; after = before; faults_before = faults_before; faults_after = faults_after; trace = []; units = 0 } Status.Memory
   ran_none before faults_before faults_after = record {
-    run = is_run 0 [] (omega (arith)) refl;
-    wrote = record { count = 0; taken = sym (appended-nil before) };
+    is_run = is_run 0 [] (omega (arith)) refl;
+    went = record { count = 0; taken = sym (appended-nil before) };
   }
 
 -- a setup for two processors

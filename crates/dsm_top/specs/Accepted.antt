@@ -52,7 +52,8 @@ pub record HasSchedule (files : Contents) (name : List ℕ) (schedule : List Act
   pub is_schedule : units_of_text text ≡ Some schedule
 
 -- the first file has a program, and the second a schedule
-pub record IsAccepted (files : Contents) (program_name schedule_name : List ℕ) (program : SmallProgram) (schedule : List Act) : Type 0 where
+pub record IsAccepted (files : Contents) (program_name schedule_name : List ℕ)
+    (program : SmallProgram) (schedule : List Act) : Type 0 where
   pub has_program : HasProgram files program_name program
   pub has_schedule : HasSchedule files schedule_name schedule
 

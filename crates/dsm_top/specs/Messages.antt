@@ -1,4 +1,4 @@
--- The numbers of statuses, and the messages of refusals.
+-- The messages of refusals.
 use Rattle.std.specs.Prelude.{ℕ, Bool, true, false, if◌then◌else◌, List, [], ◌∷◌, ◌++◌, get_or, Option, Some, None, codes}
 use Rattle.std.specs.Fmt.{decimal}
 use Rattle.dsm_base.specs.declared.act.SchedErr.{SchedErr}
@@ -7,18 +7,7 @@ use Rattle.dsm_syntax.specs.declared.errors.ProgErr.{ProgErr}
 use Rattle.dsm_top.specs.declared.status.Status.{Status}
 use Rattle.dsm_top.specs.Command.{Command, files_of}
 
--- the exit status
-abbrev pub number_of_status : Status → ℕ
-number_of_status Status.Done = 0
-number_of_status Status.Stopped = 1
-number_of_status Status.Unfinished = 2
-number_of_status (Status.ProgramRefused error) = 3
-number_of_status (Status.ScheduleRefused error) = 4
-number_of_status Status.WordsRefused = 5
-number_of_status (Status.ReadFault file) = 6
-number_of_status Status.WriteFault = 7
-number_of_status Status.Memory = 10
-
+-- the name of a limit
 abbrev pub limit_name : Which → List ℕ
 limit_name Which.Text = codes "Text"
 limit_name Which.Name = codes "Name"
@@ -38,6 +27,7 @@ limit_name Which.Barriers = codes "Barriers"
 abbrev pub numbered : List ℕ → ℕ → List ℕ
 numbered text number = text ++ decimal number
 
+-- a line of the source behind a text
 abbrev pub at_line : ℕ → List ℕ
 at_line line = numbered (codes ", line ") line
 
@@ -45,7 +35,7 @@ at_line line = numbered (codes ", line ") line
 abbrev pub named : List ℕ → List ℕ → List ℕ → ℕ → List ℕ
 named before name after line = before ++ name ++ after ++ at_line line
 
--- why a program is refused; want of memory refuses none
+-- why a program is refused; out of memory refuses none
 abbrev pub program_text : ProgErr → List ℕ
 program_text (ProgErr.BadByte line) = codes "bad byte" ++ at_line line
 program_text (ProgErr.LiteralTooLarge line) = codes "literal too large" ++ at_line line
@@ -54,15 +44,19 @@ program_text (ProgErr.Unexpected line) = codes "unexpected token" ++ at_line lin
 program_text (ProgErr.Unknown name line) = named (codes "unknown name ") name [] line
 program_text (ProgErr.Twice name line) = named (codes "name ") name (codes " twice") line
 program_text (ProgErr.WrongKind name line) = named (codes "wrong kind ") name [] line
-program_text (ProgErr.ArgCount name line given wanted) = name ++ codes " takes " ++ decimal wanted ++ codes ", given " ++ decimal given ++ at_line line
+program_text (ProgErr.ArgCount name line given wanted) =
+    name ++ codes " takes " ++ decimal wanted ++ codes ", given " ++ decimal given ++ at_line line
 program_text ProgErr.NoMain = codes "no main"
 program_text (ProgErr.BindRange line) = codes "binding out of range" ++ at_line line
-program_text (ProgErr.BindOverlap cell line) = codes "cell " ++ decimal cell ++ codes " bound twice" ++ at_line line
-program_text (ProgErr.BindOwner owner procs) = numbered (codes "owner ") owner ++ (numbered (codes " with ") procs ++ codes " processors")
+program_text (ProgErr.BindOverlap cell line) =
+    codes "cell " ++ decimal cell ++ codes " bound twice" ++ at_line line
+program_text (ProgErr.BindOwner owner procs) =
+    numbered (codes "owner ") owner ++ (numbered (codes " with ") procs ++ codes " processors")
 program_text (ProgErr.OutsideLoop line) = codes "outside a loop" ++ at_line line
 program_text (ProgErr.NotBuilt line) = codes "not built" ++ at_line line
 program_text ProgErr.Memory = codes "out of memory"
 
+-- why a schedule or a list of picks is refused; out of memory refuses none
 abbrev pub schedule_text : SchedErr → List ℕ
 schedule_text SchedErr.NoProcs = codes "no procs"
 schedule_text (SchedErr.BadEntry line) = codes "bad entry" ++ at_line line
@@ -87,6 +81,7 @@ refusal_text command Status.WordsRefused = codes "words refused"
 refusal_text command (Status.ReadFault file) = codes "cannot read " ++ file_name command file
 refusal_text command _ = []
 
+-- the line that a refusal writes
 abbrev pub message_line : List ℕ → List ℕ
 message_line text = codes "dsm: " ++ text ++ 10 ∷ []
 
@@ -100,4 +95,5 @@ is_refusal _ = false
 
 -- the message of a status: one line where it refuses, and else nothing
 abbrev pub message_of : Option Command → Status → List ℕ
-message_of command status = if is_refusal status then message_line (refusal_text command status) else []
+message_of command status =
+    if is_refusal status then message_line (refusal_text command status) else []

@@ -19,12 +19,22 @@ use Rattle.dsm_top.specs.declared.status.Status.{Status}
 use Rattle.dsm_top.specs.Command.{Command, run, check, plain}
 use Rattle.dsm_top.specs.Accepted.{Contents, IsProgram, IsProgramText, IsScheduleText, HasProgram, HasChecked, HasPicks}
 
--- what a call was given: the command that its words are, what the files hold, and how often they had failed before it and have after it
+-- what a call was given: the command that its words are, what the files hold, and how often they had
+-- failed before it and have after it
 pub record Given : Type 0 where
   pub command : Option Command
   pub files : Contents
   pub faults_before : ℕ
   pub faults_after : ℕ
+
+-- the same, of files before and after the call
+abbrev pub given_by : {F : Type 0} → (F → Contents) → (F → ℕ) → Option Command → F → F → Given
+given_by holds faults command old new = record {
+  command = command;
+  files = holds old;
+  faults_before = faults old;
+  faults_after = faults new;
+}
 
 -- the files failed in this call
 abbrev pub FilesRose : Given → Type 0
@@ -36,7 +46,7 @@ FilesRose given = Rose given.faults_before given.faults_after
 abbrev pub IsNoProgram : List ℕ → Type 0
 IsNoProgram text = (program : SmallProgram) → IsProgram text program → ⊥
 
--- what a reader of small programs answers; want of memory owes nothing
+-- what a reader of small programs answers; out of memory owes nothing
 abbrev pub IsReadProgram : List ℕ → Result SmallProgram ProgErr → Type 0
 IsReadProgram text (Ok program) = IsProgram text program
 IsReadProgram text (Err (ProgErr.NotBuilt line)) = (line ≡ 0) × IsNoProgram text
@@ -49,20 +59,36 @@ pub record HasNoProgram (files : Contents) (name : List ℕ) : Type 0 where
   pub is_read : IsProgramText files name text
   pub is_none : IsNoProgram text
 
--- the program is one; the schedule was read, and is none
-pub record HasNoSchedule (files : Contents) (program_name schedule_name : List ℕ) : Type 0 where
-  pub program : SmallProgram
-  pub has_program : HasProgram files program_name program
+-- the schedule was read, and is none
+pub record HasNoSchedule (files : Contents) (name : List ℕ) : Type 0 where
   pub text : List ℕ
-  pub is_read : IsScheduleText files schedule_name text
+  pub is_read : IsScheduleText files name text
   pub is_none : units_of_text text ≡ None
 
+-- the program of `run` couldn't be read, or is none
+abbrev pub RefusesSmall : Given → List ℕ → Status → Type 0
+RefusesSmall given name (Status.ReadFault zero) = FilesRose given
+RefusesSmall given name (Status.ProgramRefused error) =
+    (error ≡ ProgErr.NotBuilt 0) × HasNoProgram given.files name
+RefusesSmall given name _ = ⊥
+
+-- the schedule couldn't be read, or is none
+abbrev pub RefusesSchedule : Given → List ℕ → Status → Type 0
+RefusesSchedule given name (Status.ReadFault (suc zero)) = FilesRose given
+RefusesSchedule given name (Status.ScheduleRefused error) =
+    (error ≡ SchedErr.NotBuilt 0) × HasNoSchedule given.files name
+RefusesSchedule given name _ = ⊥
+
+-- the program is one, and the schedule behind it is refused
+pub record RefusesScheduleBehind (given : Given) (program schedule : List ℕ) (status : Status) : Type 0 where
+  pub found : SmallProgram
+  pub has_program : HasProgram given.files program found
+  pub refused : RefusesSchedule given schedule status
+
+-- first the program, then the schedule
 abbrev pub RefusesRun : Given → List ℕ → List ℕ → Status → Type 0
-RefusesRun given program schedule (Status.ReadFault zero) = FilesRose given
-RefusesRun given program schedule (Status.ReadFault (suc zero)) = ((found : SmallProgram) × HasProgram given.files program found) × FilesRose given
-RefusesRun given program schedule (Status.ProgramRefused error) = (error ≡ ProgErr.NotBuilt 0) × HasNoProgram given.files program
-RefusesRun given program schedule (Status.ScheduleRefused error) = (error ≡ SchedErr.NotBuilt 0) × HasNoSchedule given.files program schedule
-RefusesRun given program schedule _ = ⊥
+RefusesRun given program schedule status =
+    RefusesSmall given program status ⊎ RefusesScheduleBehind given program schedule status
 
 -- What `check` and `plain` refuse.
 
@@ -71,14 +97,11 @@ pub data IsUnchecked (text : List ℕ) (error : ProgErr) : Type 0 where
   -- it has no tokens
   by_tokens : IsTextRefused text error → IsUnchecked text error
   -- its tokens spell no tree
-  by_tree : (tokens : List Token) → IsLexed text tokens → error ≢ ProgErr.Memory → AreTokensRefused tokens error → IsUnchecked text error
+  by_tree : (tokens : List Token) → IsLexed text tokens → error ≢ ProgErr.Memory →
+      AreTokensRefused tokens error → IsUnchecked text error
   -- a rule refuses the tree
-  by_rules : (tokens : List Token) (items : List Item) → IsLexed text tokens → IsProgramOf (lexemes tokens) items → checked items ≡ Err error → IsUnchecked text error
-
--- the status for the error of a reader of programs
-abbrev pub status_of_error : ProgErr → Status
-status_of_error ProgErr.Memory = Status.Memory
-status_of_error error = Status.ProgramRefused error
+  by_rules : (tokens : List Token) (items : List Item) → IsLexed text tokens →
+      IsProgramOf (lexemes tokens) items → checked items ≡ Err error → IsUnchecked text error
 
 -- the program was read, and is refused
 pub record HasUnchecked (files : Contents) (name : List ℕ) (error : ProgErr) : Type 0 where
@@ -109,25 +132,39 @@ abbrev pub RefusesOwner : Program → ℕ → Status → Type 0
 RefusesOwner program procs (Status.ProgramRefused error) = fitting program procs ≡ Err error
 RefusesOwner program procs _ = ⊥
 
+-- the program is accepted, but an owner is none of so many processors
+pub record RefusesOwners (given : Given) (program : List ℕ) (procs : ℕ) (status : Status) : Type 0 where
+  pub found : Program
+  pub has_program : HasChecked given.files program found
+  pub refused : RefusesOwner found procs status
+
 -- first the program, then the owners
 abbrev pub RefusesCheck : Given → List ℕ → ℕ → Status → Type 0
 RefusesCheck given program procs status =
-    RefusesProgram given program status ⊎ ((found : Program) × HasChecked given.files program found × RefusesOwner found procs status)
+    RefusesProgram given program status ⊎ RefusesOwners given program procs status
 
--- an owner is none of the processors that the picks have
-pub record RefusesPicksOwner (given : Given) (found : Program) (picks : List ℕ) (status : Status) : Type 0 where
+-- the program is accepted, and the picks behind it are refused
+pub record RefusesPicksBehind (given : Given) (program picks : List ℕ) (status : Status) : Type 0 where
+  pub found : Program
+  pub has_program : HasChecked given.files program found
+  pub refused : RefusesPicks given picks status
+
+-- the program and the picks are accepted, but an owner is none of their processors
+pub record RefusesOwnersBehind (given : Given) (program picks : List ℕ) (status : Status) : Type 0 where
   pub procs : ℕ
   pub entries : List PickEntry
   pub has_picks : HasPicks given.files picks procs entries
-  pub refused : RefusesOwner found procs status
+  pub refused : RefusesOwners given program procs status
 
 -- first the program, then the picks, then the owners
 abbrev pub RefusesPlain : Given → List ℕ → List ℕ → Status → Type 0
 RefusesPlain given program picks status =
-    RefusesProgram given program status ⊎ ((found : Program) × HasChecked given.files program found × (RefusesPicks given picks status ⊎ RefusesPicksOwner given found picks status))
+    RefusesProgram given program status ⊎
+    (RefusesPicksBehind given program picks status ⊎ RefusesOwnersBehind given program picks status)
 
 -- Any call.
 
+-- why a call of a command, or of words that are none, is refused
 abbrev pub RefusesCommand : Given → Status → Option Command → Type 0
 RefusesCommand given status None = status ≡ Status.WordsRefused
 RefusesCommand given status (Some (run program schedule)) = RefusesRun given program schedule status
@@ -138,11 +175,11 @@ RefusesCommand given status (Some (plain program picks)) = RefusesPlain given pr
 abbrev pub Refuses : Given → Status → Type 0
 Refuses given status = RefusesCommand given status given.command
 
--- want of memory owes nothing
+-- out of memory owes nothing
 abbrev pub OrMemory : (Status → Type 0) → Status → Type 0
 OrMemory Refused Status.Memory = Unit {0}
 OrMemory Refused status = Refused status
 
--- a refusal, or want of memory
+-- a refusal, or out of memory
 abbrev pub RefusesOrMemory : Given → Status → Type 0
 RefusesOrMemory given status = OrMemory (Refuses given) status

@@ -15,7 +15,8 @@ ghost use Rattle.dsm_check.specs.Programs.{Program};
 ghost use Rattle.dsm_check.specs.CheckedViews.{program_of};
 ghost use Rattle.dsm_check.specs.Setups.{IsSetupOf, fitting};
 ghost use Rattle.dsm_picks.specs.Entries.{picked};
-ghost use Rattle.dsm_top.specs.Ended.{RanPlain};
+ghost use Rattle.dsm_top.specs.Ended.{left_by};
+ghost use Rattle.dsm_top.specs.PlainRuns.{IsPicked};
 ghost use Rattle.dsm_top.specs.PickRuns.{endings_of, program_run};
 ghost use Rattle.dsm_top.specs.Prepared.{CanPick};
 ghost use Rattle.dsm_top.specs.Runs.{WroteCut};
@@ -25,7 +26,6 @@ ghost use Rattle.dsm_top.specs.PlainRuns.{endings_in, program_in, next_turns, Is
 use crate::message::Line;
 use crate::output::put_all;
 use crate::prepare::PickRun;
-use crate::run::status_of;
 use crate::status::{Report, Status};
 use crate::turn::turn_line;
 use dsm_base::{Ending, Label, MemFault, Proc, ReadErr, Sink};
@@ -174,8 +174,8 @@ fn apply_picks<K: Sink>(
 /// Runs a program over one memory by a list of picks.
 pub(crate) fn run_picks<K: Sink>(alloc: Global, prepared: PickRun, out: &mut K) -> Report
     requires { CanPick prepared }
-    ensures ran { ((result.status ≡ Status.Memory) × (result.units ≡ 0) × (K.sink_holds out.new ≡ K.sink_holds out.old)) ⊎
-        RanPlain (program_of prepared.program) prepared.picks.procs (picked prepared.picks) record { before = K.sink_holds out.old; after = K.sink_holds out.new; faults_before = K.sink_faults out.old; faults_after = K.sink_faults out.new; trace = reverse result.trace; units = result.units } result.status }
+    ensures ran { IsPicked prepared
+        (left_by K.sink_holds K.sink_faults out.old out.new result) result.status }
     ensures no_trace { result.trace ≡ [] }
 {
     let procs = prepared.picks.procs;
@@ -183,9 +183,8 @@ pub(crate) fn run_picks<K: Sink>(alloc: Global, prepared: PickRun, out: &mut K) 
         return Report::untraced(alloc, Status::Memory, 0);
     };
     let status = match apply_picks(alloc, &mut run, &prepared.picks, out) {
-        Ok(()) => status_of(run.endings.finished()),
-        Err(ReadErr::Failed) => Status::WriteFault,
-        Err(ReadErr::Memory) => Status::Memory,
+        Ok(()) => Status::from(run.endings.finished()),
+        Err(error) => Status::from(error),
     };
     Report::untraced(alloc, status, run.units)
 }

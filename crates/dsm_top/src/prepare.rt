@@ -1,24 +1,22 @@
 //! What stands before a run: programs, schedules and lists of picks from their files.
 
-ghost use Rattle.std.specs.Prelude.{◌≡◌, ◌≤◌, ℕ, List, Some, Ok, string_bytes, option_map, IfOk, IfErr, MatchResult};
-ghost use Rattle.dsm_base.specs.Files.{Reads};
+ghost use Rattle.std.specs.Prelude.{◌≡◌, Some, Ok, string_bytes, IfOk, IfErr, MatchResult};
 ghost use Rattle.dsm_check.specs.CheckedViews.{program_of};
 ghost use Rattle.dsm_check.specs.Setups.{fitting};
-ghost use Rattle.dsm_small.specs.declared.tree.SmallProgram.{SmallProgram};
 ghost use Rattle.dsm_top.specs.Accepted.{IsText, HasProgram, HasSchedule, IsAccepted, HasChecked, HasFitting, HasPicks};
 ghost use Rattle.dsm_top.specs.Command.{command_in};
-ghost use Rattle.dsm_top.specs.Refusals.{Given, RefusesRun, RefusesProgram, RefusesPicks, RefusesOwner, RefusesCheck, RefusesPlain, OrMemory, RefusesOrMemory, status_of_error};
-ghost use Rattle.dsm_top.specs.Prepared.{IsUnread, IsPart, CanRun, CanPick, IsReady, IsPrepared};
+ghost use Rattle.dsm_top.specs.Refusals.{given_by, RefusesSmall, RefusesSchedule, RefusesRun, RefusesProgram, RefusesPicks, RefusesOwner, RefusesCheck, RefusesPlain, RefusesOrMemory};
+ghost use Rattle.dsm_top.specs.Prepared.{span_of, IsUnread, RefusesIn, Keeps, CanRun, CanPick, IsReady, IsPrepared};
 
 use crate::command::Command;
 use crate::program::{read_checked, read_program};
 use crate::status::Status;
-use dsm_base::{Files, ReadErr, SchedErr};
+use dsm_base::{Files, ReadErr};
 use dsm_check::{Checked, fit};
 use dsm_picks::{Picks, read_picks};
 use dsm_sched::{MOST_BYTES, Schedule, read_schedule};
 use dsm_small::SmallProgram;
-use dsm_syntax::{MOST_TEXT, ProgErr};
+use dsm_syntax::MOST_TEXT;
 use std::alloc::Global;
 
 /// A small program and a schedule that are accepted.
@@ -51,10 +49,12 @@ fn read_text<F: Files>(
     most: usize,
     number: u8,
 ) -> Result<Vec<u8>, Status>
-    ensures text { IfOk result (λ text. IsText (F.files_hold files.old) (string_bytes name.now) most text.items) }
-    ensures failed { IfErr result (IsUnread number (F.files_faults files.old) (F.files_faults files.new)) }
-    ensures same { F.files_hold files.new ≡ F.files_hold files.old }
-    ensures later { F.files_faults files.old ≤ F.files_faults files.new }
+    ensures text { IfOk result (λ text.
+        IsText (F.files_hold files.old) (string_bytes name.now) most text.items) }
+    ensures failed { IfErr result
+        (IsUnread number (F.files_faults files.old) (F.files_faults files.new)) }
+    ensures keeps { Keeps (span_of F.files_hold F.files_faults files.old files.new)
+        (F.files_hold files.new) }
 {
     let mut text = Vec::new(alloc);
     match files.read(name, most, &mut text) {
@@ -65,85 +65,67 @@ fn read_text<F: Files>(
 }
 
 /// Reads the program of `run`.
-fn program_of<F: Files>(alloc: Global, name: &String, files: &mut F) -> Result<SmallProgram, Status>
+fn small_of<F: Files>(alloc: Global, name: &String, files: &mut F) -> Result<SmallProgram, Status>
     ensures program { IfOk result (HasProgram (F.files_hold files.old) (string_bytes name.now)) }
-    ensures refused { IfErr result (λ status. (given : Given) (schedule : List ℕ) → IsPart given (F.files_hold files.old) (F.files_faults files.old) (F.files_faults files.new) → OrMemory (RefusesRun given (string_bytes name.now) schedule) status) }
-    ensures same { F.files_hold files.new ≡ F.files_hold files.old }
-    ensures later { F.files_faults files.old ≤ F.files_faults files.new }
+    ensures refused { IfErr result
+        (RefusesIn (span_of F.files_hold F.files_faults files.old files.new)
+            (λ given. RefusesSmall given (string_bytes name.now))) }
+    ensures keeps { Keeps (span_of F.files_hold F.files_faults files.old files.new)
+        (F.files_hold files.new) }
 {
     let text = read_text(alloc, files, name, MOST_TEXT, 0)?;
-    match read_program(alloc, text.as_slice()) {
-        Ok(program) => Ok(program),
-        Err(ProgErr::NotBuilt { line }) => Err(Status::ProgramRefused(ProgErr::NotBuilt { line })),
-        Err(_) => Err(Status::Memory),
-    }
+    Ok(read_program(alloc, text.as_slice())?)
 }
 
-/// Reads the schedule of `run`, behind its program.
+/// Reads the schedule of `run`.
 fn schedule_of<F: Files>(alloc: Global, name: &String, files: &mut F) -> Result<Schedule, Status>
-    ensures schedule { IfOk result (λ schedule. HasSchedule (F.files_hold files.old) (string_bytes name.now) schedule.units) }
+    ensures schedule { IfOk result (λ schedule.
+        HasSchedule (F.files_hold files.old) (string_bytes name.now) schedule.units) }
     ensures procs { IfOk result (λ schedule. schedule.procs ≡ 2) }
-    ensures refused { IfErr result (λ status. (given : Given) (name_before : List ℕ) (program : SmallProgram) → HasProgram given.files name_before program → IsPart given (F.files_hold files.old) (F.files_faults files.old) (F.files_faults files.new) → OrMemory (RefusesRun given name_before (string_bytes name.now)) status) }
-    ensures same { F.files_hold files.new ≡ F.files_hold files.old }
-    ensures later { F.files_faults files.old ≤ F.files_faults files.new }
+    ensures refused { IfErr result
+        (RefusesIn (span_of F.files_hold F.files_faults files.old files.new)
+            (λ given. RefusesSchedule given (string_bytes name.now))) }
+    ensures keeps { Keeps (span_of F.files_hold F.files_faults files.old files.new)
+        (F.files_hold files.new) }
 {
     let text = read_text(alloc, files, name, MOST_BYTES, 1)?;
-    match read_schedule(alloc, text.as_slice()) {
-        Ok(schedule) => Ok(schedule),
-        Err(SchedErr::NotBuilt { line }) => Err(Status::ScheduleRefused(SchedErr::NotBuilt {
-            line,
-        })),
-        Err(_) => Err(Status::Memory),
-    }
-}
-
-/// The status for the error of a reader of programs.
-fn status_of_error(error: ProgErr) -> Status
-    ensures { result ≡ status_of_error error }
-{
-    match error {
-        ProgErr::Memory => Status::Memory,
-        error => Status::ProgramRefused(error),
-    }
+    Ok(read_schedule(alloc, text.as_slice())?)
 }
 
 /// Reads a program of the whole language.
 fn checked_of<F: Files>(alloc: Global, name: &String, files: &mut F) -> Result<Checked, Status>
-    ensures program { IfOk result (λ program. HasChecked (F.files_hold files.old) (string_bytes name.now) (program_of program)) }
-    ensures refused { IfErr result (λ status. (given : Given) → IsPart given (F.files_hold files.old) (F.files_faults files.old) (F.files_faults files.new) → OrMemory (RefusesProgram given (string_bytes name.now)) status) }
-    ensures same { F.files_hold files.new ≡ F.files_hold files.old }
-    ensures later { F.files_faults files.old ≤ F.files_faults files.new }
+    ensures program { IfOk result (λ program.
+        HasChecked (F.files_hold files.old) (string_bytes name.now) (program_of program)) }
+    ensures refused { IfErr result
+        (RefusesIn (span_of F.files_hold F.files_faults files.old files.new)
+            (λ given. RefusesProgram given (string_bytes name.now))) }
+    ensures keeps { Keeps (span_of F.files_hold F.files_faults files.old files.new)
+        (F.files_hold files.new) }
 {
     let text = read_text(alloc, files, name, MOST_TEXT, 0)?;
-    match read_checked(alloc, text.as_slice()) {
-        Ok(checked) => Ok(checked),
-        Err(error) => Err(status_of_error(error)),
-    }
+    Ok(read_checked(alloc, text.as_slice())?)
 }
 
 /// Reads a list of picks.
 fn picks_of<F: Files>(alloc: Global, name: &String, files: &mut F) -> Result<Picks, Status>
-    ensures picks { IfOk result (λ picks. HasPicks (F.files_hold files.old) (string_bytes name.now) picks.procs picks.entries) }
-    ensures refused { IfErr result (λ status. (given : Given) → IsPart given (F.files_hold files.old) (F.files_faults files.old) (F.files_faults files.new) → OrMemory (RefusesPicks given (string_bytes name.now)) status) }
-    ensures same { F.files_hold files.new ≡ F.files_hold files.old }
-    ensures later { F.files_faults files.old ≤ F.files_faults files.new }
+    ensures picks { IfOk result (λ picks.
+        HasPicks (F.files_hold files.old) (string_bytes name.now) picks.procs picks.entries) }
+    ensures refused { IfErr result
+        (RefusesIn (span_of F.files_hold F.files_faults files.old files.new)
+            (λ given. RefusesPicks given (string_bytes name.now))) }
+    ensures keeps { Keeps (span_of F.files_hold F.files_faults files.old files.new)
+        (F.files_hold files.new) }
 {
     let text = read_text(alloc, files, name, MOST_BYTES, 1)?;
-    match read_picks(alloc, text.as_slice()) {
-        Ok(picks) => Ok(picks),
-        Err(SchedErr::Memory) => Err(Status::Memory),
-        Err(error) => Err(Status::ScheduleRefused(error)),
-    }
+    Ok(read_picks(alloc, text.as_slice())?)
 }
 
 /// Tests that each owner is one of so many processors.
 fn test_owners(program: &Checked, procs: u8) -> Result<(), Status>
-    ensures { MatchResult result (λ _. fitting (program_of program.now) procs ≡ Ok tt) (RefusesOwner (program_of program.now) procs) }
+    ensures { MatchResult result (λ _. fitting (program_of program.now) procs ≡ Ok tt)
+        (RefusesOwner (program_of program.now) procs) }
 {
-    match fit(program, procs) {
-        Ok(()) => Ok(()),
-        Err(error) => Err(Status::ProgramRefused(error)),
-    }
+    fit(program, procs).map_err(Status::ProgramRefused)
 }
 
 /// Reads the program and the schedule of `run`.
@@ -153,11 +135,15 @@ fn prepare_run<F: Files>(
     schedule: &String,
     files: &mut F,
 ) -> Result<SmallRun, Status>
-    ensures accepted { IfOk result (λ prepared. IsAccepted (F.files_hold files.old) (string_bytes program.now) (string_bytes schedule.now) prepared.program prepared.schedule.units) }
+    ensures accepted { IfOk result (λ prepared. IsAccepted (F.files_hold files.old)
+        (string_bytes program.now) (string_bytes schedule.now)
+        prepared.program prepared.schedule.units) }
     ensures ready { IfOk result CanRun }
-    ensures refused { IfErr result (λ status. (given : Given) → IsPart given (F.files_hold files.old) (F.files_faults files.old) (F.files_faults files.new) → OrMemory (RefusesRun given (string_bytes program.now) (string_bytes schedule.now)) status) }
+    ensures refused { IfErr result
+        (RefusesIn (span_of F.files_hold F.files_faults files.old files.new)
+            (λ given. RefusesRun given (string_bytes program.now) (string_bytes schedule.now))) }
 {
-    let program = program_of(alloc, program, files)?;
+    let program = small_of(alloc, program, files)?;
     let schedule = schedule_of(alloc, schedule, files)?;
     Ok(SmallRun { program, schedule })
 }
@@ -169,8 +155,11 @@ fn prepare_check<F: Files>(
     procs: u8,
     files: &mut F,
 ) -> Result<Checked, Status>
-    ensures accepted { IfOk result (λ found. HasFitting (F.files_hold files.old) (string_bytes program.now) procs (program_of found)) }
-    ensures refused { IfErr result (λ status. (given : Given) → IsPart given (F.files_hold files.old) (F.files_faults files.old) (F.files_faults files.new) → OrMemory (RefusesCheck given (string_bytes program.now) procs) status) }
+    ensures accepted { IfOk result (λ found. HasFitting (F.files_hold files.old)
+        (string_bytes program.now) procs (program_of found)) }
+    ensures refused { IfErr result
+        (RefusesIn (span_of F.files_hold F.files_faults files.old files.new)
+            (λ given. RefusesCheck given (string_bytes program.now) procs)) }
 {
     let program = checked_of(alloc, program, files)?;
     test_owners(&program, procs)?;
@@ -184,9 +173,13 @@ fn prepare_plain<F: Files>(
     picks: &String,
     files: &mut F,
 ) -> Result<PickRun, Status>
-    ensures accepted { IfOk result (λ prepared. HasFitting (F.files_hold files.old) (string_bytes program.now) prepared.picks.procs (program_of prepared.program)) }
-    ensures picks { IfOk result (λ prepared. HasPicks (F.files_hold files.old) (string_bytes picks.now) prepared.picks.procs prepared.picks.entries) }
-    ensures refused { IfErr result (λ status. (given : Given) → IsPart given (F.files_hold files.old) (F.files_faults files.old) (F.files_faults files.new) → OrMemory (RefusesPlain given (string_bytes program.now) (string_bytes picks.now)) status) }
+    ensures accepted { IfOk result (λ prepared. HasFitting (F.files_hold files.old)
+        (string_bytes program.now) prepared.picks.procs (program_of prepared.program)) }
+    ensures picks { IfOk result (λ prepared. HasPicks (F.files_hold files.old)
+        (string_bytes picks.now) prepared.picks.procs prepared.picks.entries) }
+    ensures refused { IfErr result
+        (RefusesIn (span_of F.files_hold F.files_faults files.old files.new)
+            (λ given. RefusesPlain given (string_bytes program.now) (string_bytes picks.now))) }
 {
     let program = checked_of(alloc, program, files)?;
     let picks = picks_of(alloc, picks, files)?;
@@ -200,9 +193,12 @@ pub(crate) fn prepare<F: Files>(
     command: Command<'_>,
     files: &mut F,
 ) -> Result<Prepared, Status>
-    ensures accepted { IfOk result (IsPrepared (F.files_hold files.old) (Some (command_in command.entry))) }
+    ensures accepted { IfOk result
+        (IsPrepared (F.files_hold files.old) (Some (command_in command.entry))) }
     ensures ready { IfOk result IsReady }
-    ensures refused { IfErr result (RefusesOrMemory record { command = Some (command_in command.entry); files = F.files_hold files.old; faults_before = F.files_faults files.old; faults_after = F.files_faults files.new }) }
+    ensures refused { IfErr result (RefusesOrMemory
+        (given_by F.files_hold F.files_faults (Some (command_in command.entry))
+            files.old files.new)) }
 {
     match command {
         Command::Run { program, schedule } => {

@@ -1,6 +1,6 @@
 //! The run of a program by a schedule.
 
-ghost use Rattle.std.specs.Prelude.{◌≡◌, ◌≤◌, [], length, reverse, IfOk, OnOk, IfErr, refl};
+ghost use Rattle.std.specs.Prelude.{◌≡◌, ◌≤◌, [], length, IfOk, OnOk, IfErr, refl};
 ghost use Rattle.std.specs.List.{AllByRecursion};
 ghost use Rattle.dsm_base.specs.Causes.{HasCause};
 ghost use Rattle.dsm_base.specs.Sink.{appended};
@@ -8,7 +8,7 @@ ghost use Rattle.dsm_trace.specs.Fits.{IsWithin};
 ghost use Rattle.dsm_world.specs.World.{setup_of, groups_of, units_of};
 ghost use Rattle.dsm_small.specs.Meaning.{small_first};
 ghost use Rattle.dsm_small.specs.Setups.{small_setup};
-ghost use Rattle.dsm_top.specs.Ended.{lines_of_trace, status_of, Ran};
+ghost use Rattle.dsm_top.specs.Ended.{left_by, lines_of_trace, Ran};
 ghost use Rattle.dsm_top.specs.Prepared.{CanRun};
 ghost use Rattle.dsm_top.specs.Runs.{IsWholeWorld, first_in, FitsFirst, IsSameRun, WroteCut};
 
@@ -18,7 +18,7 @@ use crate::status::{Report, Status};
 use dsm_base::{Act, MemFault, ReadErr, Sink};
 use dsm_laws_locks::one_memory;
 use dsm_small::{SharedProgram, SmallMaker, SmallProgram};
-use dsm_world::{Finished, World};
+use dsm_world::World;
 use std::alloc::Global;
 use std::rc::Rc;
 
@@ -38,8 +38,10 @@ pub(crate) fn apply_units<K: Sink>(
     ensures count { units_of world.new ≤ length units.now }
     ensures all { OnOk result (units_of world.new ≡ length units.now) }
     ensures fits { FitsFirst world.new units.now }
-    ensures wrote { OnOk result (K.sink_holds out.new ≡ appended (K.sink_holds out.old) (lines_of_trace (groups_of world.new))) }
-    ensures cut { IfErr result (WroteCut (K.sink_holds out.old) (K.sink_holds out.new) (lines_of_trace (groups_of world.new))) }
+    ensures wrote { OnOk result (K.sink_holds out.new ≡
+        appended (K.sink_holds out.old) (lines_of_trace (groups_of world.new))) }
+    ensures cut { IfErr result (WroteCut (K.sink_holds out.old) (K.sink_holds out.new)
+        (lines_of_trace (groups_of world.new))) }
     ensures cause { HasCause (K.sink_faults out.old) (K.sink_faults out.new) result }
 {
     for act in units {
@@ -63,30 +65,19 @@ fn start(alloc: Global, program: SmallProgram, procs: u8) -> Result<World<SmallM
     World::new(alloc, setup, SmallMaker { program })
 }
 
-/// The status of a run that went through its schedule.
-pub(crate) fn status_of(finished: Finished) -> Status
-    ensures { result ≡ status_of finished }
-{
-    match finished {
-        Finished::Done => Status::Done,
-        Finished::Stopped => Status::Stopped,
-        Finished::Unfinished => Status::Unfinished,
-    }
-}
-
 /// Runs a program by a schedule.
 pub(crate) fn run<K: Sink>(alloc: Global, prepared: SmallRun, out: &mut K) -> Report
     requires { CanRun prepared }
-    ensures { Ran prepared.program prepared.schedule.units record { before = K.sink_holds out.old; after = K.sink_holds out.new; faults_before = K.sink_faults out.old; faults_after = K.sink_faults out.new; trace = reverse result.trace; units = result.units } result.status }
+    ensures { Ran prepared.program prepared.schedule.units
+        (left_by K.sink_holds K.sink_faults out.old out.new result) result.status }
 {
     one_memory::<SmallMaker>();
     let Ok(mut world) = start(alloc, prepared.program, prepared.schedule.procs) else {
         return Report::untraced(alloc, Status::Memory, 0);
     };
     let status = match apply_units(&mut world, prepared.schedule.units.as_slice(), out) {
-        Ok(()) => status_of(world.finished()),
-        Err(ReadErr::Failed) => Status::WriteFault,
-        Err(ReadErr::Memory) => Status::Memory,
+        Ok(()) => Status::from(world.finished()),
+        Err(error) => Status::from(error),
     };
     let units = world.units();
     Report {

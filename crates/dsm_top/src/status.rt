@@ -1,11 +1,12 @@
 //! How a call ends.
 
 ghost use Rattle.std.specs.Prelude.{◌≡◌, []};
-ghost use Rattle.dsm_top.specs.Messages.{number_of_status};
+ghost use Rattle.dsm_top.specs.Statuses.{number_of_status};
 
-use dsm_base::SchedErr;
+use dsm_base::{ReadErr, SchedErr};
 use dsm_syntax::ProgErr;
 use dsm_trace::Trace;
+use dsm_world::Finished;
 use std::alloc::Global;
 
 /// How a call ended.
@@ -27,8 +28,63 @@ pub enum Status {
     ReadFault(u8),
     /// Not all that was to be written could be.
     WriteFault,
-    /// Want of memory.
+    /// Out of memory.
     Memory,
+}
+
+impl From<Finished> for Status {
+    ghost use Rattle.dsm_top.specs.Statuses.{status_of_finished};
+
+    ghost from_gives = { λ finished status. status ≡ status_of_finished finished };
+
+    /// The status of a run that went through its schedule or its picks.
+    fn from(finished: Finished) -> Status {
+        match finished {
+            Finished::Done => Status::Done,
+            Finished::Stopped => Status::Stopped,
+            Finished::Unfinished => Status::Unfinished,
+        }
+    }
+}
+
+impl From<ProgErr> for Status {
+    ghost use Rattle.dsm_top.specs.Statuses.{status_of_program};
+
+    ghost from_gives = { λ error status. status ≡ status_of_program error };
+
+    fn from(error: ProgErr) -> Status {
+        match error {
+            ProgErr::Memory => Status::Memory,
+            error => Status::ProgramRefused(error),
+        }
+    }
+}
+
+impl From<SchedErr> for Status {
+    ghost use Rattle.dsm_top.specs.Statuses.{status_of_schedule};
+
+    ghost from_gives = { λ error status. status ≡ status_of_schedule error };
+
+    fn from(error: SchedErr) -> Status {
+        match error {
+            SchedErr::Memory => Status::Memory,
+            error => Status::ScheduleRefused(error),
+        }
+    }
+}
+
+impl From<ReadErr> for Status {
+    ghost use Rattle.dsm_top.specs.Statuses.{status_of_write};
+
+    ghost from_gives = { λ error status. status ≡ status_of_write error };
+
+    /// The status for what kept the sink from taking all.
+    fn from(error: ReadErr) -> Status {
+        match error {
+            ReadErr::Failed => Status::WriteFault,
+            ReadErr::Memory => Status::Memory,
+        }
+    }
 }
 
 impl Status {

@@ -1,11 +1,11 @@
 //! The call that the program makes.
 
-ghost use Rattle.std.specs.Prelude.{◌≡◌, [], map, option_map, reverse, string_bytes};
-ghost use Rattle.dsm_base.specs.Sink.{appended};
+ghost use Rattle.std.specs.Prelude.{◌≡◌, map, option_map, string_bytes, OnOk, IfErr};
+ghost use Rattle.dsm_base.specs.Causes.{HasCause};
 ghost use Rattle.dsm_top.specs.Command.{command_of, command_in};
 ghost use Rattle.dsm_top.specs.Prepared.{IsReady, IsPrepared};
-ghost use Rattle.dsm_top.specs.Ended.{RefusedBy, Ended};
-ghost use Rattle.dsm_top.specs.Refusals.{Given, RefusesOrMemory};
+ghost use Rattle.dsm_top.specs.Ended.{left_by, Refused, Ended};
+ghost use Rattle.dsm_top.specs.Refusals.{Given, given_by, RefusesOrMemory};
 
 use crate::check::answer_check;
 use crate::command::{Command, read_command};
@@ -15,28 +15,29 @@ use crate::plain::run_picks;
 use crate::prepare::{Prepared, prepare};
 use crate::run::run;
 use crate::status::{Report, Status};
-use dsm_base::{Files, ReadErr, Sink};
+use dsm_base::{Files, Sink};
 use std::alloc::Global;
 
-/// Writes the message of a refusal; want of memory has none. Answers the status.
+/// Writes the message of a refusal; out of memory has none.
 fn refuse<K: Sink>(
     alloc: Global,
     command: Option<Command<'_>>,
     status: Status,
     out: &mut K,
-) -> Status
-    ensures { (given : Given) → given.command ≡ option_map command_in command.entry → RefusesOrMemory given status → RefusedBy given record { before = K.sink_holds out.old; after = K.sink_holds out.new; faults_before = K.sink_faults out.old; faults_after = K.sink_faults out.new; trace = []; units = 0 } result }
+) -> Report
+    ensures { (given : Given) → given.command ≡ option_map command_in command.entry →
+        RefusesOrMemory given status →
+        Refused given (left_by K.sink_holds K.sink_faults out.old out.new result) result.status }
 {
     if let Status::Memory = status {
-        return status;
+        return Report::untraced(alloc, status, 0);
     }
     let Ok(line) = message(alloc, command, &status) else {
-        return Status::Memory;
+        return Report::untraced(alloc, Status::Memory, 0);
     };
     match put_all(out, line.as_slice()) {
-        Ok(()) => status,
-        Err(ReadErr::Failed) => Status::WriteFault,
-        Err(ReadErr::Memory) => Status::Memory,
+        Ok(()) => Report::untraced(alloc, status, 0),
+        Err(error) => Report::untraced(alloc, Status::from(error), 0),
     }
 }
 
@@ -44,7 +45,7 @@ fn refuse<K: Sink>(
 fn perform<K: Sink>(alloc: Global, prepared: Prepared, out: &mut K) -> Report
     requires { IsReady prepared }
     ensures { (given : Given) → IsPrepared given.files given.command prepared →
-        Ended given record { before = K.sink_holds out.old; after = K.sink_holds out.new; faults_before = K.sink_faults out.old; faults_after = K.sink_faults out.new; trace = reverse result.trace; units = result.units } result.status }
+        Ended given (left_by K.sink_holds K.sink_faults out.old out.new result) result.status }
 {
     match prepared {
         Prepared::Run(prepared) => run(alloc, prepared, out),
@@ -59,17 +60,20 @@ fn perform<K: Sink>(alloc: Global, prepared: Prepared, out: &mut K) -> Report
 /// `ok`, or the one line that says why nothing ran.
 pub fn run_tool<F: Files, K: Sink>(
     alloc: Global,
-    words: &[String],
+    words: &Vec<String>,
     files: &mut F,
     out: &mut K,
 ) -> Report
-    ensures ended { Ended record { command = command_of (map string_bytes words.now); files = F.files_hold files.old; faults_before = F.files_faults files.old; faults_after = F.files_faults files.new } record { before = K.sink_holds out.old; after = K.sink_holds out.new; faults_before = K.sink_faults out.old; faults_after = K.sink_faults out.new; trace = reverse result.trace; units = result.units } result.status }
+    ensures ended { Ended
+        (given_by F.files_hold F.files_faults (command_of (map string_bytes words.now.items))
+            files.old files.new)
+        (left_by K.sink_holds K.sink_faults out.old out.new result) result.status }
 {
-    let Some(command) = read_command(words) else {
-        return Report::untraced(alloc, refuse(alloc, None, Status::WordsRefused, out), 0);
+    let Some(command) = read_command(words.as_slice()) else {
+        return refuse(alloc, None, Status::WordsRefused, out);
     };
     match prepare(alloc, command, files) {
         Ok(prepared) => perform(alloc, prepared, out),
-        Err(status) => Report::untraced(alloc, refuse(alloc, Some(command), status, out), 0),
+        Err(status) => refuse(alloc, Some(command), status, out),
     }
 }

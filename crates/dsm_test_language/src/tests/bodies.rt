@@ -79,16 +79,16 @@ fn bodies(rt: HostRuntime) -> Result<(), Fail> {
         ("barrier(L);", "wrong kind L 1"),
         ("barrier(x);", "wrong kind x 1"),
         ("barrier(K);", "unknown K 1"),
-        ("break;", "outside a loop 1"),
-        ("if (1) continue;", "outside a loop 1"),
+        ("break;", "OutsideLoop { line: 1 }"),
+        ("if (1) continue;", "OutsideLoop { line: 1 }"),
         ("while (1) { if (n) break; else continue; }", "accepted"),
-        ("while (1) ;\nbreak;", "outside a loop 2"),
-        ("for (; ; ) { } continue;", "outside a loop 1"),
+        ("while (1) ;\nbreak;", "OutsideLoop { line: 2 }"),
+        ("for (; ; ) { } continue;", "OutsideLoop { line: 1 }"),
         ("return; return 1;", "accepted"),
-        ("break; k = 1;", "outside a loop 1"),
+        ("break; k = 1;", "OutsideLoop { line: 1 }"),
         ("k = 1; break;", "unknown k 1"),
         ("f(); break;", "f takes 1 given 0 1"),
-        ("break; f();", "outside a loop 1"),
+        ("break; f();", "OutsideLoop { line: 1 }"),
         ("f(); int i; int i;", "f takes 1 given 0 1"),
         ("int i; int i; f();", "twice i 1"),
         ("int i; int i = k;", "twice i 1"),
@@ -109,13 +109,13 @@ fn bodies(rt: HostRuntime) -> Result<(), Fail> {
         ("void h(int i) { { int i; } }", "accepted"),
         (
             "void h() { break; } void k() { while (1) h(); }",
-            "outside a loop 1",
+            "OutsideLoop { line: 1 }",
         ),
         ("void h() { late = 1; } shared int late;", "accepted"),
         ("void h() { k = 1; } void i() { break; }", "unknown k 1"),
         (
             "void h() { break; } void i() { k = 1; }",
-            "outside a loop 1",
+            "OutsideLoop { line: 1 }",
         ),
     ];
     answered(&rt, alloc, "", NOTHING, ITEMS)
@@ -134,20 +134,20 @@ fn limits_of_a_body(rt: HostRuntime) -> Result<(), Fail> {
     let later = format!(in alloc; "k = 1; print({eight}, 8);")?;
     let table = [
         (all.as_str(), "accepted"),
-        (nine.as_str(), "limit PrintParts 9"),
+        (nine.as_str(), "Limit { which: PrintParts, count: 9 }"),
         (long.as_str(), "accepted"),
-        (longer.as_str(), "limit PrintText 97"),
-        (both.as_str(), "limit PrintParts 9"),
+        (longer.as_str(), "Limit { which: PrintText, count: 97 }"),
+        (both.as_str(), "Limit { which: PrintParts, count: 9 }"),
         (later.as_str(), "unknown k 1"),
     ];
     answered(&rt, alloc, MAIN, "}", table.as_slice())?;
     let table = [
         ("", 192, "", "accepted"),
-        ("", 193, "", "limit Slots 193"),
-        ("", 192, "int j; int j;", "limit Slots 193"),
+        ("", 193, "", "Limit { which: Slots, count: 193 }"),
+        ("", 192, "int j; int j;", "Limit { which: Slots, count: 193 }"),
         ("", 191, "int j; int j;", "twice j 1"),
         ("int me, int n", 190, "", "accepted"),
-        ("int me, int n", 191, "", "limit Slots 193"),
+        ("int me, int n", 191, "", "Limit { which: Slots, count: 193 }"),
     ];
     for (params, count, rest, wanted) in table {
         let blocks = repeated(alloc, "{ int i; }", count)?;

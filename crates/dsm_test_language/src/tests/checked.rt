@@ -1,6 +1,7 @@
 //! What the rules make of texts.
 
 use crate::tests::texts::named;
+use dsm_base::Text;
 use dsm_check::{Checked, check};
 use dsm_parse::parse;
 use dsm_syntax::{ProgErr, lex};
@@ -16,36 +17,36 @@ pub const NAMES: &str =
     "shared int x; shared int a[4]; int p; int q[2]; lock_t L; lock_t M[2]; barrier_t B; \
     int f(int u) { return u; } void g() {}";
 
+/// A refusal with a name and a line.
+fn at_name(alloc: Global, kind: &str, name: &Text, line: u32) -> Result<String, AllocError> {
+    let name = named(alloc, name)?;
+    format!(in alloc; "{kind} {name} {line}")
+}
+
+/// A refusal for so many arguments.
+fn arguments(
+    alloc: Global,
+    name: &Text,
+    wanted: u32,
+    given: u32,
+    line: u32,
+) -> Result<String, AllocError> {
+    let name = named(alloc, name)?;
+    format!(in alloc; "{name} takes {wanted} given {given} {line}")
+}
+
 /// What a refusal tells.
 pub fn told(alloc: Global, refused: &ProgErr) -> Result<String, AllocError> {
     match refused {
-        ProgErr::Limit { which, count } => format!(in alloc; "limit {which:?} {count}"),
-        ProgErr::Unknown { name, line } => {
-            let name = named(alloc, name)?;
-            format!(in alloc; "unknown {name} {line}")
-        }
-        ProgErr::Twice { name, line } => {
-            let name = named(alloc, name)?;
-            format!(in alloc; "twice {name} {line}")
-        }
-        ProgErr::WrongKind { name, line } => {
-            let name = named(alloc, name)?;
-            format!(in alloc; "wrong kind {name} {line}")
-        }
+        ProgErr::Unknown { name, line } => at_name(alloc, "unknown", name, *line),
+        ProgErr::Twice { name, line } => at_name(alloc, "twice", name, *line),
+        ProgErr::WrongKind { name, line } => at_name(alloc, "wrong kind", name, *line),
         ProgErr::ArgCount {
             name,
             line,
             given,
             wanted,
-        } => {
-            let name = named(alloc, name)?;
-            format!(in alloc; "{name} takes {wanted} given {given} {line}")
-        }
-        ProgErr::NoMain => String::from_str(alloc, "no main"),
-        ProgErr::BindRange { line } => format!(in alloc; "range {line}"),
-        ProgErr::BindOverlap { cell, line } => format!(in alloc; "overlap {cell} {line}"),
-        ProgErr::BindOwner { owner, procs } => format!(in alloc; "owner {owner} of {procs}"),
-        ProgErr::OutsideLoop { line } => format!(in alloc; "outside a loop {line}"),
+        } => arguments(alloc, name, *wanted, *given, *line),
         other => format!(in alloc; "{other:?}"),
     }
 }

@@ -17,32 +17,32 @@ fn names_of_a_file(rt: HostRuntime) -> Result<(), Fail> {
         ("lock_t L[0];", "wrong kind L 1"),
         ("int a; int a[0];", "twice a 1"),
         ("int a[0]; int a;", "wrong kind a 1"),
-        ("lock_t L[257];", "limit Locks 257"),
-        ("lock_t L[200], M[57];", "limit Locks 257"),
-        ("shared int a[65537];", "limit SharedCells 65537"),
-        ("int a[16385];", "limit PrivateCells 16385"),
-        ("int a[16384], b;", "limit PrivateCells 16385"),
+        ("lock_t L[257];", "Limit { which: Locks, count: 257 }"),
+        ("lock_t L[200], M[57];", "Limit { which: Locks, count: 257 }"),
+        ("shared int a[65537];", "Limit { which: SharedCells, count: 65537 }"),
+        ("int a[16385];", "Limit { which: PrivateCells, count: 16385 }"),
+        ("int a[16384], b;", "Limit { which: PrivateCells, count: 16385 }"),
         (
             "shared int a[9223372036854775807];",
-            "limit SharedCells 4294967295",
+            "Limit { which: SharedCells, count: 4294967295 }",
         ),
-        ("int a[16385], b[0];", "limit PrivateCells 16385"),
+        ("int a[16385], b[0];", "Limit { which: PrivateCells, count: 16385 }"),
         ("int a[16384], b[0];", "wrong kind b 1"),
         ("lock_t L[256]; lock_t L;", "twice L 1"),
         ("int b[0], a[16385];", "wrong kind b 1"),
-        ("", "no main"),
-        ("int main;", "no main"),
-        ("int main() {}", "no main"),
-        ("int main(int me) {}", "no main"),
-        ("int main(int a, int b, int c) {}", "no main"),
-        ("void main(int me, int n) {}", "no main"),
+        ("", "NoMain"),
+        ("int main;", "NoMain"),
+        ("int main() {}", "NoMain"),
+        ("int main(int me) {}", "NoMain"),
+        ("int main(int a, int b, int c) {}", "NoMain"),
+        ("void main(int me, int n) {}", "NoMain"),
         ("int a; int b; int a; lock_t L[257];", "twice a 1"),
-        ("lock_t L[257]; int a; int a;", "limit Locks 257"),
+        ("lock_t L[257]; int a; int a;", "Limit { which: Locks, count: 257 }"),
         ("int main; int main(int me, int n) {}", "twice main 1"),
-        ("int f() { break; }", "no main"),
+        ("int f() { break; }", "NoMain"),
         ("int f() { break; } int a; int a;", "twice a 1"),
         ("bind(L, a, 0, 1); int a[0];", "wrong kind a 1"),
-        ("bind(L, a, 0, 1);", "no main"),
+        ("bind(L, a, 0, 1);", "NoMain"),
     ];
     answered(&rt, alloc, "", "", TABLE)
 }
@@ -78,7 +78,7 @@ fn limits_of_a_file(rt: HostRuntime) -> Result<(), Fail> {
             "{text}"
         );
     }
-    let table = [(64, "accepted"), (65, "limit Barriers 65")];
+    let table = [(64, "accepted"), (65, "Limit { which: Barriers, count: 65 }")];
     for (count, wanted) in table {
         let mut text = String::new(alloc);
         for number in 0..count {
@@ -87,12 +87,12 @@ fn limits_of_a_file(rt: HostRuntime) -> Result<(), Fail> {
         text.push_str(NOTHING)?;
         assert_eq!(rt; answer(alloc, text.as_str())?.as_str(), wanted);
     }
-    let table = [(255, "accepted"), (256, "limit Functions 257")];
+    let table = [(255, "accepted"), (256, "Limit { which: Functions, count: 257 }")];
     for (count, wanted) in table {
         let text = format!(in alloc; "{}{NOTHING}", functions(alloc, count)?)?;
         assert_eq!(rt; answer(alloc, text.as_str())?.as_str(), wanted);
     }
-    let table = [(16, "accepted"), (17, "limit Params 17")];
+    let table = [(16, "accepted"), (17, "Limit { which: Params, count: 17 }")];
     for (count, wanted) in table {
         let text = format!(in alloc; "{}{NOTHING}", with_params(alloc, count)?)?;
         assert_eq!(rt; answer(alloc, text.as_str())?.as_str(), wanted);
@@ -103,7 +103,7 @@ fn limits_of_a_file(rt: HostRuntime) -> Result<(), Fail> {
     let text = format!(in alloc; "{}{wide}", functions(alloc, 256)?)?;
     assert_eq!(rt;
         answer(alloc, text.as_str())?.as_str(),
-        "limit Functions 257"
+        "Limit { which: Functions, count: 257 }"
     );
     Ok(())
 }

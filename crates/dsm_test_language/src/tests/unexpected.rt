@@ -1,6 +1,6 @@
 //! Tokens with which no program goes on.
 
-use crate::tests::read::{Reading, texts_are};
+use crate::tests::read::refused;
 use std::test::Fail;
 
 const FIRST: &str = "Unexpected { line: 1 }";
@@ -117,5 +117,5 @@ fn each_program_is_refused_at_its_first_fault(rt: HostRuntime) -> Result<(), Fai
         ("int a\n\n\n", FIRST),
         ("// a\n\nint a\n// b\n", THIRD),
     ];
-    texts_are(&rt, rt.alloc(), Reading::Refusal, TABLE)
+    refused(&rt, rt.alloc(), TABLE)
 }

@@ -3,10 +3,11 @@ use Rattle.dsm_check.specs.Programs.{Program}
 use Rattle.dsm_check.specs.Setups.{IsSetupOf}
 use Rattle.dsm_picks.specs.Entries.{picked}
 use Rattle.dsm_top.specs.declared.status.Status.{Status}
-use Rattle.dsm_top.specs.Ended.{Left, RanPlain, status_of}
+use Rattle.dsm_top.specs.Statuses.{status_of_write}
+use Rattle.dsm_top.specs.Ended.{Left, RanPlain}
 use Rattle.dsm_top.specs.PlainRuns.{program_in}
-use Rattle.dsm_top.proofs.PickEnds.{plain_whole, plain_cut, plain_short}
-use Rattle.dsm_top.proofs.plain.run_picks.Goals.{in-Ok-apply_picks, in-Err-Failed, in-Err-Memory}
+use Rattle.dsm_top.proofs.PickEnds.{plain_whole, plain_cut}
+use Rattle.dsm_top.proofs.plain.run_picks.Goals.{in-Ok-apply_picks, in-Err}
 use Rattle.dsm_top.proofs.plain.run_picks.Goals as goal
 
 pub returns-clause-ran : goal.returns-clause-ran
@@ -31,12 +32,10 @@ returns-clause-ran g c =
     let as_prepared = λ (status : Status) (ran : RanPlain program procs picks left status). subst (λ one. RanPlain one procs picks left status) same ran in
     rw c.untraced-2.ensures (inr (elim c.match-apply_picks.branch [
       | in-Ok-apply_picks w ↦
-          let ran = plain_whole program procs setup is_setup picks left within run w.finished.result w.finished.ensures w.in-Ok-apply_picks.ensures.whole w.in-Ok-apply_picks.ensures.at w.in-Ok-apply_picks.ensures.all w.in-Ok-apply_picks.ensures.wrote in
-          rw (w.status-is, w.status_of-status.ensures) (as_prepared (status_of w.finished.result) ran)
-      | in-Err-Failed w ↦
-          let ran = plain_cut program procs setup is_setup picks left within (rw (w.in-Err-Failed.field-0-is) at w.in-Err-Failed.ensures.cut) (rw (w.in-Err-Failed.field-0-is) at w.in-Err-Failed.ensures.cause.rose) in
-          rw (w.status-is) (as_prepared Status.WriteFault ran)
-      | in-Err-Memory w ↦
-          let ran = plain_short program procs setup is_setup picks left within (rw (w.in-Err-Memory.field-0-is) at w.in-Err-Memory.ensures.cut) in
-          rw (w.status-is) (as_prepared Status.Memory ran)
+          let ran = plain_whole program procs setup is_setup picks left within run w.finished.result w.from-status.result w.finished.ensures w.from-status.ensures w.in-Ok-apply_picks.ensures.whole w.in-Ok-apply_picks.ensures.at w.in-Ok-apply_picks.ensures.all
+          w.in-Ok-apply_picks.ensures.wrote in
+          rw (w.status-is) (as_prepared w.from-status.result ran)
+      | in-Err w ↦
+          let ran = plain_cut program procs setup is_setup picks left within w.in-Err.error w.in-Err.ensures.cut w.in-Err.ensures.cause.rose in
+          rw (w.status-is, w.from-status-in-Err.ensures) (as_prepared (status_of_write w.in-Err.error) ran)
     ]))

@@ -17,8 +17,7 @@ returns-in_err-picks-clause-refused g c =
     rw (p.1, p.2) (λ given part.
     plain_picks given (string_bytes c.args.program.now) (string_bytes c.args.picks.now) program c.in_err-picks.field-0.0
     (subst (λ files. HasChecked files (string_bytes c.args.program.now) program) (sym part.same) c.in_ok-program.ensures.program)
-    (c.in_err-picks.ensures.refused given (later_part given (g.F.Files.files_hold c.args.files.now) (g.F.Files.files_hold c.checked_of.new.files) (g.F.Files.files_faults c.args.files.now) (g.F.Files.files_faults c.checked_of.new.files)
-    (g.F.Files.files_faults c.picks_of.new.files) c.checked_of.ensures.same c.checked_of.ensures.later part)))
+    (c.in_err-picks.ensures.refused given (later_part given (g.F.Files.files_hold c.args.files.now) (g.F.Files.files_hold c.checked_of.new.files) (g.F.Files.files_faults c.args.files.now) (g.F.Files.files_faults c.checked_of.new.files) (g.F.Files.files_faults c.picks_of.new.files) c.checked_of.ensures.keeps part)))
 
 pub returns-in_err-test_owners-clause-refused : goal.returns-in_err-test_owners-clause-refused
 returns-in_err-test_owners-clause-refused g c =
@@ -28,9 +27,9 @@ returns-in_err-test_owners-clause-refused g c =
     rw (p.1, p.2) (λ given part.
     plain_owner given (string_bytes c.args.program.now) (string_bytes c.args.picks.now) program picks.procs picks.entries c.in_err-test_owners.field-0.0
     (subst (λ files. HasChecked files (string_bytes c.args.program.now) program) (sym part.same) c.in_ok-program.ensures.program)
-    (subst (λ files. HasPicks files (string_bytes c.args.picks.now) picks.procs picks.entries) (c.checked_of.ensures.same ∙ sym part.same) c.in_ok-picks.ensures.picks) c.in_err-test_owners.ensures)
+    (subst (λ files. HasPicks files (string_bytes c.args.picks.now) picks.procs picks.entries) (c.checked_of.ensures.keeps.same ∙ sym part.same) c.in_ok-picks.ensures.picks) c.in_err-test_owners.ensures)
 
 pub returns-clause-picks : goal.returns-clause-picks
 returns-clause-picks g c =
     let picks = c.in_ok-picks.picks in
-    subst (λ files. HasPicks files (string_bytes c.args.picks.now) picks.procs picks.entries) c.checked_of.ensures.same c.in_ok-picks.ensures.picks
+    subst (λ files. HasPicks files (string_bytes c.args.picks.now) picks.procs picks.entries) c.checked_of.ensures.keeps.same c.in_ok-picks.ensures.picks

@@ -2,8 +2,8 @@ use Rattle.std.proofs.Common.{◌≡◌, ◌≤◌, ◌∙◌, length, reverse, 
 use Rattle.dsm_world.specs.World.{units_of}
 use Rattle.dsm_top.specs.Ended.{Left}
 use Rattle.dsm_top.specs.Runs.{FitsFirst}
-use Rattle.dsm_top.proofs.Runs.{ran_whole, ran_cut, ran_short}
-use Rattle.dsm_top.proofs.run.run.Goals.{in-Ok-apply_units, in-Err-Failed, in-Err-Memory}
+use Rattle.dsm_top.proofs.Runs.{ran_whole, cut_by}
+use Rattle.dsm_top.proofs.run.run.Goals.{in-Ok-apply_units, in-Err}
 use Rattle.dsm_top.proofs.run.run.Goals as goal
 
 pub returns : goal.returns
@@ -26,10 +26,9 @@ returns g c =
     elim c.match-apply_units.branch [
       | in-Ok-apply_units w ↦
           let all : units_of world ≡ length schedule = subst (λ units. units_of world ≡ length units) c.as_slice.ensures w.in-Ok-apply_units.ensures.all in
-          rw (w.status-is, w.status_of-status.ensures)
-          (ran_whole program schedule c.one_memory.ensures c.requires.within world left setup first within fits c.into_trace.ensures c.units-units.ensures w.finished.result w.finished.ensures all w.in-Ok-apply_units.ensures.wrote)
-      | in-Err-Failed w ↦ rw (w.status-is)
-          (ran_cut program schedule c.one_memory.ensures c.requires.within world left setup first within fits c.into_trace.ensures c.units-units.ensures (rw (w.in-Err-Failed.field-0-is) at w.in-Err-Failed.ensures.cut) (rw (w.in-Err-Failed.field-0-is) at w.in-Err-Failed.ensures.cause.rose))
-      | in-Err-Memory w ↦ rw (w.status-is)
-          (ran_short program schedule c.one_memory.ensures c.requires.within world left setup first within fits c.into_trace.ensures c.units-units.ensures (rw (w.in-Err-Memory.field-0-is) at w.in-Err-Memory.ensures.cut))
+          rw (w.status-is)
+          (ran_whole program schedule c.one_memory.ensures c.requires.within world left setup first within fits c.into_trace.ensures c.units-units.ensures w.finished.result w.from-status.result w.finished.ensures w.from-status.ensures all
+          w.in-Ok-apply_units.ensures.wrote)
+      | in-Err w ↦ rw (w.status-is, w.from-status-in-Err.ensures)
+          (cut_by program schedule c.one_memory.ensures c.requires.within world left setup first within fits c.into_trace.ensures c.units-units.ensures w.in-Err.error w.in-Err.ensures.cut w.in-Err.ensures.cause.rose)
     ]

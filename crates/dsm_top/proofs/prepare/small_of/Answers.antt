@@ -1,0 +1,16 @@
+use Rattle.std.proofs.Common.{string_bytes}
+use Rattle.std.proofs.lemmas.Result.{err_from_is_err_and}
+use Rattle.dsm_top.proofs.Parts.{unread_small}
+use Rattle.dsm_top.proofs.Programs.{refuses_small}
+use Rattle.dsm_top.proofs.prepare.small_of.Goals as goal
+
+pub returns-in_err-text-clause-refused : goal.returns-in_err-text-clause-refused
+returns-in_err-text-clause-refused g c =
+    let p = err_from_is_err_and c.from_residual.result c.from_residual.ensures.1 in
+    rw (p.1, p.2) (unread_small record { files = g.F.Files.files_hold c.args.files.now; before = g.F.Files.files_faults c.args.files.now; after = g.F.Files.files_faults c.read_text.new.files } (string_bytes c.args.name.now) c.in_err-text.field-0.0 c.in_err-text.ensures.failed)
+
+pub returns-in_err-read_program-clause-refused : goal.returns-in_err-read_program-clause-refused
+returns-in_err-read_program-clause-refused g c =
+    let p = err_from_is_err_and c.from_residual-in_err-read_program.result c.from_residual-in_err-read_program.ensures.1 in
+    rw (p.1, p.2)
+    (refuses_small record { files = g.F.Files.files_hold c.args.files.now; before = g.F.Files.files_faults c.args.files.now; after = g.F.Files.files_faults c.read_text.new.files } (string_bytes c.args.name.now) c.as_slice.result.now c.in_ok-text.text.items c.as_slice.ensures.value c.in_err-read_program.field-0.0 c.in_ok-text.ensures.text c.in_err-read_program.ensures)
