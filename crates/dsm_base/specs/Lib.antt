@@ -3,9 +3,14 @@ pub mod Causes
 pub mod Plan
 pub mod Sink
 pub mod Files
+pub mod Holders
+pub mod Output
 pub mod Threads
+pub mod Steps
 pub mod Access
 pub mod Plain
-pub mod Output
+pub mod Labels
+pub mod Rights
+pub mod Endings
 pub mod Agrees
 pub mod Setups
