@@ -1,15 +1,22 @@
 -- How threads come to be over.
-use Rattle.std.specs.Prelude.{ℕ, Bool, true, false, if◌then◌else◌, Option, Some, None, is_some}
+use Rattle.std.specs.Prelude.{ℕ, Bool, true, false, if◌then◌else◌, List, [], ◌∷◌, Option, Some, None, is_some}
 use Rattle.dsm_base.specs.declared.finished.Finished.{Finished}
 use Rattle.dsm_base.specs.declared.label.Ending.{Ending}
 use Rattle.dsm_base.specs.declared.label.Label.{Label}
-use Rattle.dsm_base.specs.Family.{all_below}
+use Rattle.dsm_base.specs.Family.{update, all_below}
+use Rattle.dsm_base.specs.Plain.{Turn}
 
 -- how a thread came to be over, after one more label
 abbrev pub ending_after : Option Ending → Label → Option Ending
 ending_after ending Label.End = Some Ending.Ended
 ending_after ending (Label.Stop fault line) = Some Ending.Stopped
 ending_after ending _ = ending
+
+-- how each thread came to be over in a run
+abbrev pub endings_of : List Turn → ℕ → Option Ending
+endings_of [] = λ p. None
+endings_of (turn ∷ before) =
+    update (endings_of before) turn.proc (ending_after (endings_of before turn.proc) turn.label)
 
 abbrev pub is_ended : Option Ending → Bool
 is_ended None = false

@@ -8,6 +8,7 @@ pub mod Output
 pub mod Threads
 pub mod Steps
 pub mod Access
+pub mod Pieces
 pub mod Plain
 pub mod Labels
 pub mod Rights
