@@ -9,3 +9,4 @@ pub mod Plain
 pub mod Output
 pub mod Agrees
 pub mod Setups
+pub mod BigEndian

@@ -2,9 +2,11 @@
 #![tactic(auto)]
 
 mod act;
+mod big_endian;
 mod errors;
 mod files;
 mod label;
+mod lists;
 mod names;
 mod plan;
 mod setup;
@@ -15,9 +17,15 @@ mod tests;
 mod text;
 
 pub use act::{Act, SchedErr};
+pub use big_endian::{bytes_of_read_number, i64_at, put_i64, put_u16, put_u32, u16_at, u32_at};
 pub use errors::{Failed, MemFault, ReadErr};
 pub use files::{Files, MemFiles, NamedFile, NamedFiles};
 pub use label::{Ending, Label, Want};
+pub use lists::{
+    BarNumber, BarNumbers, BarStand, BarStands, LockNumber, LockNumbers, LockStand, LockStands,
+    LoggedGrant, LoggedGrants, LoggedOpening, LoggedOpenings, Pending, PendingLine, Procs, Record,
+    Records, Turns,
+};
 pub use names::{Bar, Cell, Fault, Lock, Mode, Proc};
 pub use plan::CallKind;
 pub use setup::{Bindings, Object, Piece, Setup};
