@@ -15,3 +15,4 @@ pub mod Rights
 pub mod Endings
 pub mod Agrees
 pub mod Setups
+pub mod BigEndian
