@@ -9,3 +9,5 @@ pub mod Plain
 pub mod Output
 pub mod Agrees
 pub mod Setups
+pub mod Store
+pub mod MemStore
