@@ -16,3 +16,5 @@ pub mod Endings
 pub mod Agrees
 pub mod Setups
 pub mod BigEndian
+pub mod Store
+pub mod MemStore

@@ -9,6 +9,7 @@ mod finished;
 mod holders;
 mod label;
 mod lists;
+mod mem_store;
 mod names;
 mod output;
 mod pieces;
@@ -17,6 +18,7 @@ mod rights;
 mod setup;
 mod sink;
 mod stack;
+mod store;
 mod task;
 #[cfg(test)]
 mod tests;
@@ -24,7 +26,7 @@ mod text;
 
 pub use act::{Act, SchedErr};
 pub use big_endian::{bytes_of_read_number, i64_at, put_i64, put_u16, put_u32, u16_at, u32_at};
-pub use errors::{Failed, MemFault, ReadErr};
+pub use errors::{Digest, Failed, LoadErr, MemFault, ReadErr};
 pub use files::{Files, MemFiles, NamedFile, NamedFiles};
 pub use finished::{Finished, ending_after, finished_by, finished_where, is_ended};
 pub use holders::{Holder, Holders, are_compatible};
@@ -34,6 +36,7 @@ pub use lists::{
     LoggedGrant, LoggedGrants, LoggedOpening, LoggedOpenings, Pending, PendingLine, Procs, Record,
     Records, Turns,
 };
+pub use mem_store::MemStore;
 pub use names::{Bar, Cell, Fault, Lock, Mode, Proc};
 pub use output::{PrintedLines, fault_name, line_text, printed_line, turn_line};
 pub use pieces::{Pieces, piece_at, pieces_of};
@@ -42,5 +45,6 @@ pub use rights::{Modes, Numbers, Rights};
 pub use setup::{Bindings, Object, Piece, Setup};
 pub use sink::{MemSink, Sink};
 pub use stack::Stack;
+pub use store::Store;
 pub use task::{Task, TaskMaker};
 pub use text::Text;
