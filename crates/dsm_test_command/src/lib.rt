@@ -1,4 +1,4 @@
-//! Runs from the words to the bytes, with files and a sink in memory.
+//! Calls from the words to the bytes.
 #![tactic(auto)]
 
 #[cfg(test)]

@@ -8,8 +8,8 @@ use Rattle.std.proofs.lemmas.List.FromFn.{length-map-range_with_len}
 use Rattle.std.proofs.lemmas.List.Sums.{sum_by-cons}
 use Rattle.std.proofs.lemmas.Grind.{common_steps}
 use Rattle.dsm_base.specs.Setups.{is_proc_count}
-use Rattle.dsm_picks.specs.declared.picks.PickEntry.{PickEntry}
-use Rattle.dsm_picks.specs.Picks.{is_entry, entry_units, round_of, rounds_of, picks_of, picked_by, is_picks}
+use Rattle.dsm_sched.specs.declared.picks.PickEntry.{PickEntry}
+use Rattle.dsm_sched.specs.Picks.{is_entry, entry_units, round_of, rounds_of, picks_of, picked_by, is_picks}
 
 round_length : (procs : ℕ) → length (round_of procs) ≡ procs
 round_length procs = length-map-range_with_len (λ p. record { 0 = p }) 0 procs

@@ -3,10 +3,10 @@ use Rattle.std.specs.Prelude.{◌≡◌, ◌≤◌, ℕ, List, Option}
 use Rattle.std.proofs.Common.{refl, sym, ◌∙◌, subst, arith, inl, inr}
 use Rattle.dsm_base.specs.Causes.{Rose}
 use Rattle.dsm_check.specs.Programs.{Program}
-use Rattle.dsm_picks.specs.declared.picks.PickEntry.{PickEntry}
+use Rattle.dsm_sched.specs.declared.picks.PickEntry.{PickEntry}
 use Rattle.dsm_small.specs.declared.tree.SmallProgram.{SmallProgram}
 use Rattle.dsm_top.specs.declared.status.Status.{Status}
-use Rattle.dsm_top.specs.Command.{Command}
+use Rattle.dsm_command.specs.Commands.{Command}
 use Rattle.dsm_top.specs.Accepted.{Contents, HasProgram, HasChecked, HasPicks}
 use Rattle.dsm_top.specs.Refusals.{Given, FilesRose, RefusesSmall, RefusesSchedule, RefusesRun, RefusesProgram, RefusesPicks, RefusesOwner, RefusesCheck, RefusesPlain, OrMemory}
 use Rattle.dsm_top.specs.Prepared.{Span, IsUnread, IsPart, Keeps, RefusesIn}

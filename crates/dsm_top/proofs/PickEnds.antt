@@ -9,27 +9,33 @@ use Rattle.dsm_base.specs.declared.names.Proc.{Proc}
 use Rattle.dsm_base.specs.declared.setup.Setup.{Setup}
 use Rattle.dsm_check.specs.Programs.{Program}
 use Rattle.dsm_check.specs.Setups.{IsSetupOf}
-use Rattle.dsm_world.specs.Finished.{finished_by}
-use Rattle.dsm_world.specs.declared.world.Finished.{Finished}
+use Rattle.dsm_base.specs.declared.finished.Finished.{Finished}
+use Rattle.dsm_base.specs.Endings.{endings_of, finished_by}
+use Rattle.dsm_base.specs.Plain.{Turn}
+use Rattle.dsm_plain.specs.Machine.{endings_at}
 use Rattle.dsm_top.specs.declared.plain.PlainRun.{PlainRun}
 use Rattle.dsm_top.specs.declared.status.Status.{Status}
 use Rattle.dsm_top.specs.Statuses.{status_of_finished, status_of_write}
 use Rattle.dsm_top.specs.Ended.{Left, IsRunByFirst, RanPlain}
 use Rattle.dsm_top.specs.Runs.{WroteCut}
-use Rattle.dsm_top.specs.PickRuns.{endings_of, program_run}
-use Rattle.dsm_top.specs.PlainRuns.{endings_in, IsWholeRun, IsAt}
+use Rattle.dsm_top.specs.PickRuns.{program_run}
+use Rattle.dsm_top.specs.PlainRuns.{IsAt}
 use Rattle.dsm_top.proofs.Went.{went_through}
+
+-- how the threads of a machine came to be over is how those of its run did
+machine_endings : (program : Program) (setup : Setup) (run : PlainRun) (turns : List Turn) → IsAt program setup run turns → endings_at run.machine ≡ endings_of turns
+machine_endings program setup run turns at = ?
 
 module _ (program : Program) (procs : ℕ) (setup : Setup) (is_setup : IsSetupOf program procs setup) (picks : List Proc) (left : Left) (within : left.units ≤ length picks) where
   is_run : IsRunByFirst program procs picks left.units (program_run program setup (take left.units picks))
   is_run = record { within = within; is_run = record { setup = setup; is_setup = is_setup; is_run = refl } }
 
-  pub plain_whole : (run : PlainRun) (finished : Finished) (status : Status) → finished ≡ finished_by (length run.endings.list.items) (endings_in run.endings) → status ≡ status_of_finished finished → IsWholeRun run →
+  pub plain_whole : (run : PlainRun) (finished : Finished) (status : Status) → finished ≡ finished_by run.machine.setup.procs (endings_at run.machine) → status ≡ status_of_finished finished →
       IsAt program setup run (program_run program setup (take left.units picks)) → left.units ≡ length picks → left.after ≡ appended left.before (printed_lines (program_run program setup (take left.units picks))) → RanPlain program procs picks left status
-  plain_whole run finished status is named whole at all wrote =
+  plain_whole run finished status is named at all wrote =
       let turns = program_run program setup (take left.units picks) in
       let stands : finished_by procs (endings_of turns) ≡ finished =
-      sym (is ∙ (λ i. finished_by ((whole.endings ∙ (ap (λ (s : Setup). s.procs) at.setup_is ∙ is_setup.procs)) i) (at.endings i))) in
+      sym (is ∙ (λ i. finished_by ((ap (λ (s : Setup). s.procs) at.setup_is ∙ is_setup.procs) i) (machine_endings program setup run turns at i))) in
       record {
         turns = turns;
         is_run = is_run;

@@ -7,29 +7,23 @@ use Rattle.dsm_base.specs.declared.names.Proc.{Proc}
 use Rattle.dsm_base.specs.declared.errors.ReadErr.{ReadErr}
 use Rattle.dsm_base.specs.declared.label.Label.{Label}
 use Rattle.dsm_base.specs.declared.setup.Setup.{Setup}
-use Rattle.dsm_base.specs.Family.{update}
 use Rattle.dsm_base.specs.Output.{line_text, printed_of, printed_lines}
-use Rattle.dsm_base.specs.Plain.{Turn, PlainState, plain_start, plain_turn, plain_after}
+use Rattle.dsm_base.specs.Plain.{Turn, PlainState, plain_turn, plain_after}
 use Rattle.dsm_base.specs.Threads.{Semantics}
 use Rattle.dsm_base.specs.Sink.{appended, TakesPart}
-use Rattle.dsm_trace.specs.Processor.{ending_after}
 use Rattle.dsm_check.specs.Programs.{Program}
-use Rattle.dsm_check.specs.Semantics.{program_semantics}
-use Rattle.dsm_check.specs.SemanticsItems.{State}
+use Rattle.dsm_semantics.specs.States.{State}
+use Rattle.dsm_semantics.specs.Programs.{first_states, threads_of}
 use Rattle.dsm_top.specs.declared.plain.PlainRun.{PlainRun}
-use Rattle.dsm_plain.specs.Machine.{machine_of, first_states, AreBelow}
+use Rattle.dsm_plain.specs.Machine.{machine_of}
 use Rattle.dsm_plain.specs.declared.waiting.Picked.{Picked}
 use Rattle.dsm_plain.specs.Waiting.{IsPick}
 use Rattle.dsm_top.specs.PickRuns.{with_turn, program_run}
-use Rattle.dsm_top.specs.PlainRuns.{endings_in, program_in, IsAt, next_turns}
+use Rattle.dsm_top.specs.PlainRuns.{program_in, IsAt, next_turns}
 use Rattle.dsm_top.specs.Runs.{WroteCut}
 use Rattle.dsm_top.proofs.Applied.{part_cut}
 use Rattle.dsm_top.proofs.PickRuns.{next_is, next_pick}
 use Rattle.dsm_top.proofs.Pieces.{part_of, next_taken}
-
--- a machine before its first turn has no counts
-pub start_below : (first : ℕ → State) (s : PlainState State) → s ≡ plain_start first → AreBelow 1 s
-start_below first s is = subst (AreBelow 1) (sym is) record { versions = λ lock. omega arith; arrived = λ p bar. omega arith }
 
 -- a pick that is no turn leaves the machine as it was
 pub no_turn : (setup : Setup) (threads : Semantics State) (old : PlainState State) (p : ℕ) (new : PlainState State) (picked : Picked) → ((label : Label) → picked ≡ Picked.Did label → ⊥) → IsPick setup threads old p new picked
@@ -52,37 +46,34 @@ pick_past (item ∷ items) (suc index) is = let past = pick_past items index is 
 -- a turn that was found is the one that is added, and what the parts of the run show of it
 module _ (program : Program) (setup : Setup) (old new : PlainRun) (turns : List Turn) (p : Proc) (at : IsAt program setup old turns)
     (same_program : program_in new ≡ program_in old) (same_setup : new.machine.setup ≡ old.machine.setup) where
-  added : (found : Option Label) → plain_turn old.machine.setup (program_semantics (program_in old).functions) (machine_of old.machine) p.0 ≡ found → next_turns program setup turns p ≡ with_turn turns p.0 found
+  added : (found : Option Label) → plain_turn old.machine.setup (threads_of (program_in old)) (machine_of old.machine) p.0 ≡ found → next_turns program setup turns p ≡ with_turn turns p.0 found
   added found is =
-      let here : plain_turn setup (program_semantics program.functions) (machine_of old.machine) p.0 ≡ found =
-      (λ i. plain_turn (sym at.setup_is i) (program_semantics (sym at.program_is i).functions) (machine_of old.machine) p.0) ∙ is in
-      next_is setup (first_states program setup.procs) (program_semantics program.functions) (machine_of old.machine) turns p found at.machine here
+      let here : plain_turn setup (threads_of program) (machine_of old.machine) p.0 ≡ found =
+      (λ i. plain_turn (sym at.setup_is i) (threads_of (sym at.program_is i)) (machine_of old.machine) p.0) ∙ is in
+      next_is setup (first_states program setup.procs) (threads_of program) (machine_of old.machine) turns p found at.machine here
 
-  pub at_turn : (label : Label) → plain_turn old.machine.setup (program_semantics (program_in old).functions) (machine_of old.machine) p.0 ≡ Some label
-      → machine_of new.machine ≡ plain_after (program_semantics (program_in old).functions) (machine_of old.machine) p.0 label
-      → endings_in new.endings ≡ update (endings_in old.endings) p.0 (ending_after (endings_in old.endings p.0) label)
+  pub at_turn : (label : Label) → plain_turn old.machine.setup (threads_of (program_in old)) (machine_of old.machine) p.0 ≡ Some label
+      → machine_of new.machine ≡ plain_after (threads_of (program_in old)) (machine_of old.machine) p.0 label
       → IsAt program setup new (next_turns program setup turns p)
-  at_turn label is machine endings = subst (IsAt program setup new) (sym (added (Some label) is)) record {
+  at_turn label is machine = subst (IsAt program setup new) (sym (added (Some label) is)) record {
     program_is = same_program ∙ at.program_is;
     setup_is = same_setup ∙ at.setup_is;
-    machine = machine ∙ (λ i. plain_after (program_semantics (at.program_is i).functions) (at.machine i) p.0 label);
-    endings = endings ∙ ap (λ (known : ℕ → Option _). update known p.0 (ending_after (known p.0) label)) at.endings;
+    machine = machine ∙ (λ i. plain_after (threads_of (at.program_is i)) (at.machine i) p.0 label);
   }
 
-  pub line_turn : (label : Label) (line : List ℕ) → plain_turn old.machine.setup (program_semantics (program_in old).functions) (machine_of old.machine) p.0 ≡ Some label → line ≡ printed_of p.0 (line_text label)
+  pub line_turn : (label : Label) (line : List ℕ) → plain_turn old.machine.setup (threads_of (program_in old)) (machine_of old.machine) p.0 ≡ Some label → line ≡ printed_of p.0 (line_text label)
       → printed_lines (next_turns program setup turns p) ≡ printed_lines turns ++ line
   line_turn label line is printed = ap printed_lines (added (Some label) is) ∙ ap (λ bytes. printed_lines turns ++ bytes) (sym printed)
 
-  pub at_none : plain_turn old.machine.setup (program_semantics (program_in old).functions) (machine_of old.machine) p.0 ≡ None
-      → machine_of new.machine ≡ machine_of old.machine → endings_in new.endings ≡ endings_in old.endings → IsAt program setup new (next_turns program setup turns p)
-  at_none is machine endings = subst (IsAt program setup new) (sym (added None is)) record {
+  pub at_none : plain_turn old.machine.setup (threads_of (program_in old)) (machine_of old.machine) p.0 ≡ None
+      → machine_of new.machine ≡ machine_of old.machine → IsAt program setup new (next_turns program setup turns p)
+  at_none is machine = subst (IsAt program setup new) (sym (added None is)) record {
     program_is = same_program ∙ at.program_is;
     setup_is = same_setup ∙ at.setup_is;
     machine = machine ∙ at.machine;
-    endings = endings ∙ at.endings;
   }
 
-  pub line_none : (line : List ℕ) → plain_turn old.machine.setup (program_semantics (program_in old).functions) (machine_of old.machine) p.0 ≡ None → line ≡ []
+  pub line_none : (line : List ℕ) → plain_turn old.machine.setup (threads_of (program_in old)) (machine_of old.machine) p.0 ≡ None → line ≡ []
       → printed_lines (next_turns program setup turns p) ≡ printed_lines turns ++ line
   line_none line is empty = ap printed_lines (added None is) ∙ (sym (append-nil (printed_lines turns)) ∙ ap (λ bytes. printed_lines turns ++ bytes) (sym empty))
 
@@ -90,7 +81,7 @@ module _ (program : Program) (setup : Setup) (old new : PlainRun) (turns : List 
 module _ (program : Program) (setup : Setup) (picks : List Proc) (old new : ℕ) (p : Proc) (is : p ≡ get_or picks old p) (inside : old < length picks) (units : new ≡ old + 1) where
   pub more_turns : program_run program setup (take new picks) ≡ next_turns program setup (program_run program setup (take old picks)) p
   more_turns =
-      ap (λ n. program_run program setup (take n picks)) units ∙ next_pick setup (first_states program setup.procs) (program_semantics program.functions) picks old p is inside
+      ap (λ n. program_run program setup (take n picks)) units ∙ next_pick setup (first_states program setup.procs) (threads_of program) picks old p is inside
 
   more_lines : (line : List ℕ) → printed_lines (next_turns program setup (program_run program setup (take old picks)) p) ≡ printed_lines (program_run program setup (take old picks)) ++ line
       → printed_lines (program_run program setup (take new picks)) ≡ printed_lines (program_run program setup (take old picks)) ++ line

@@ -1,14 +1,14 @@
 -- What the tokens of a text tell of it.
-use Rattle.std.specs.Prelude.{◌≡◌, ◌≢◌, ◌⊎◌, ℕ, List, None, Result, Ok, Err, IfOk, IfErr}
+use Rattle.std.specs.Prelude.{◌≡◌, ◌≢◌, ◌⊎◌, ℕ, List, Result, Ok, Err, IfOk, IfErr}
 use Rattle.std.proofs.Common.{inl, inr, subst, sym, ap, refl}
 use Rattle.dsm_base.specs.declared.act.SchedErr.{SchedErr}
 use Rattle.dsm_syntax.specs.declared.token.Token.{Token}
 use Rattle.dsm_syntax.specs.declared.errors.ProgErr.{ProgErr}
 use Rattle.dsm_syntax.specs.Texts.{IsLexed, IsAnswer, IsRefused as IsTextRefused}
 use Rattle.dsm_syntax.specs.Tree.{Item}
-use Rattle.dsm_cursor.specs.Lexemes.{lexemes}
-use Rattle.dsm_parse.specs.Programs.{IsProgramOf}
-use Rattle.dsm_parse.specs.Refusals.{IsRefused as AreTokensRefused}
+use Rattle.dsm_syntax.specs.Lexemes.{lexemes}
+use Rattle.dsm_laws_grammar.specs.Programs.{IsProgramOf}
+use Rattle.dsm_laws_grammar.specs.Refusals.{IsRefused as AreTokensRefused}
 use Rattle.dsm_check.specs.declared.checked.Checked.{Checked}
 use Rattle.dsm_check.specs.CheckedViews.{program_of}
 use Rattle.dsm_check.specs.Programs.{checked}
@@ -16,11 +16,11 @@ use Rattle.dsm_small.specs.declared.tree.SmallProgram.{SmallProgram}
 use Rattle.dsm_small.specs.Spelling.{IsSpelled}
 use Rattle.dsm_small.specs.Reader.{IsAnswerTo}
 use Rattle.dsm_top.specs.declared.status.Status.{Status}
-use Rattle.dsm_words.specs.Entries.{Gives}
-use Rattle.dsm_picks.specs.declared.picks.PickEntry.{PickEntry}
-use Rattle.dsm_picks.specs.Entries.{picks_said}
-use Rattle.dsm_sched.specs.Entries.{units_of_text}
-use Rattle.dsm_sched.specs.Reading.{IsRead}
+use Rattle.dsm_sched.specs.Entries.{Gives}
+use Rattle.dsm_sched.specs.declared.picks.PickEntry.{PickEntry}
+use Rattle.dsm_sched.specs.declared.schedule.Entry.{Entry}
+use Rattle.dsm_sched.specs.PickTexts.{picks_said}
+use Rattle.dsm_sched.specs.Built.{built_said}
 use Rattle.dsm_top.specs.Accepted.{IsProgramText, IsScheduleText}
 use Rattle.dsm_top.specs.Statuses.{status_of_program, status_of_schedule}
 use Rattle.dsm_top.specs.Refusals.{RefusesSmall, RefusesSchedule, RefusesProgram, RefusesPicks, IsNoProgram, IsReadProgram, IsUnchecked, by_tokens, by_tree, by_rules}
@@ -101,17 +101,13 @@ module _ (span : Span) (name slice text : List ℕ) (same : slice ≡ text) wher
   )
   refuses_small _ is_read gives given part = absurd gives
 
-  pub refuses_schedule : (error : SchedErr) → IsScheduleText span.files name text → IsRead slice (Err error) → RefusesIn span (λ given. RefusesSchedule given name) (status_of_schedule error)
-  refuses_schedule SchedErr.Memory is_read gives given part = tt
-  refuses_schedule (SchedErr.NotBuilt line) is_read gives given part = (
-    ap SchedErr.NotBuilt gives.0,
-    record {
-      text = text;
-      is_read = subst (λ held. IsScheduleText held name text) (sym part.same) is_read;
-      is_none = subst (λ bytes. units_of_text bytes ≡ None) same gives.1;
-    },
-  )
-  refuses_schedule _ is_read gives given part = absurd gives
+  pub refuses_schedule : {X : Type 0} (view : X → ℕ × List Entry) (error : SchedErr) → IsScheduleText span.files name text → Gives view (Err error) (built_said slice) → RefusesIn span (λ given. RefusesSchedule given name) (status_of_schedule error)
+  refuses_schedule view SchedErr.Memory is_read gives given part = tt
+  refuses_schedule view error is_read gives given part = record {
+    text = text;
+    is_read = subst (λ held. IsScheduleText held name text) (sym part.same) is_read;
+    is_refused = subst (λ bytes. built_said bytes ≡ Err error) same gives;
+  }
 
   pub refuses_picks : {X : Type 0} (view : X → ℕ × List PickEntry) (error : SchedErr) → IsScheduleText span.files name text → Gives view (Err error) (picks_said slice) → RefusesIn span (λ given. RefusesPicks given name) (status_of_schedule error)
   refuses_picks view SchedErr.Memory is_read gives given part = tt

@@ -17,8 +17,8 @@ use Rattle.dsm_small.specs.declared.thread.SmallMaker.{SmallMaker}
 use Rattle.dsm_small.specs.declared.tree.SmallProgram.{SmallProgram}
 use Rattle.dsm_small.specs.Meaning.{small_first, small_semantics}
 use Rattle.dsm_small.specs.Setups.{the_piece, small_setup}
-use Rattle.dsm_world.specs.declared.world.Finished.{Finished}
-use Rattle.dsm_world.specs.Finished.{finished_by}
+use Rattle.dsm_base.specs.declared.finished.Finished.{Finished}
+use Rattle.dsm_base.specs.Endings.{finished_by}
 use Rattle.dsm_world.specs.World.{setup_of, groups_of, units_of}
 use Rattle.dsm_top.specs.declared.status.Status.{Status}
 use Rattle.dsm_top.specs.Statuses.{status_of_finished, status_of_write}

@@ -2,7 +2,7 @@
 use Rattle.std.specs.Prelude.{◌≡◌, ℕ, List}
 use Rattle.std.proofs.Common.{ap, sym, ◌∙◌, subst}
 use Rattle.dsm_base.specs.Sink.{appended}
-use Rattle.dsm_world.specs.declared.world.Finished.{Finished}
+use Rattle.dsm_base.specs.declared.finished.Finished.{Finished}
 use Rattle.dsm_top.specs.declared.status.Status.{Status}
 use Rattle.dsm_top.specs.Statuses.{status_of_finished}
 use Rattle.dsm_top.specs.Ended.{Left, Went, WentThrough}

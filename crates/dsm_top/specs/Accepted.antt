@@ -1,19 +1,19 @@
 -- Which programs, schedules and lists of picks are run.
-use Rattle.std.specs.Prelude.{◌≡◌, ℕ, List, [], Option, Some, Ok}
+use Rattle.std.specs.Prelude.{◌≡◌, ℕ, List, [], Option, Ok}
 use Rattle.dsm_base.specs.Files.{Reads}
-use Rattle.dsm_base.specs.declared.act.Act.{Act}
 use Rattle.dsm_syntax.specs.declared.token.Token.{Token}
 use Rattle.dsm_syntax.specs.Texts.{IsLexed}
 use Rattle.dsm_syntax.specs.Tree.{Item}
-use Rattle.dsm_cursor.specs.Lexemes.{lexemes}
-use Rattle.dsm_parse.specs.Programs.{IsProgramOf}
+use Rattle.dsm_syntax.specs.Lexemes.{lexemes}
+use Rattle.dsm_laws_grammar.specs.Programs.{IsProgramOf}
 use Rattle.dsm_check.specs.Programs.{Program, checked}
 use Rattle.dsm_check.specs.Setups.{fitting}
-use Rattle.dsm_picks.specs.declared.picks.PickEntry.{PickEntry}
-use Rattle.dsm_picks.specs.Entries.{picks_said}
+use Rattle.dsm_sched.specs.declared.picks.PickEntry.{PickEntry}
+use Rattle.dsm_sched.specs.declared.schedule.Entry.{Entry}
+use Rattle.dsm_sched.specs.PickTexts.{picks_said}
+use Rattle.dsm_sched.specs.Built.{built_said}
 use Rattle.dsm_small.specs.declared.tree.SmallProgram.{SmallProgram}
 use Rattle.dsm_small.specs.Spelling.{IsSpelled}
-use Rattle.dsm_sched.specs.Entries.{units_of_text}
 
 -- what files hold, where they tell
 abbrev pub Contents : Type 0
@@ -45,17 +45,17 @@ pub record HasProgram (files : Contents) (name : List ℕ) (program : SmallProgr
   pub is_read : IsProgramText files name text
   pub is_program : IsProgram text program
 
--- the file has a schedule of these units
-pub record HasSchedule (files : Contents) (name : List ℕ) (schedule : List Act) : Type 0 where
+-- the file has a schedule for two processors: these entries, all of which can be run
+pub record HasSchedule (files : Contents) (name : List ℕ) (entries : List Entry) : Type 0 where
   pub text : List ℕ
   pub is_read : IsScheduleText files name text
-  pub is_schedule : units_of_text text ≡ Some schedule
+  pub is_schedule : built_said text ≡ Ok (2, entries)
 
 -- the first file has a program, and the second a schedule
 pub record IsAccepted (files : Contents) (program_name schedule_name : List ℕ)
-    (program : SmallProgram) (schedule : List Act) : Type 0 where
+    (program : SmallProgram) (entries : List Entry) : Type 0 where
   pub has_program : HasProgram files program_name program
-  pub has_schedule : HasSchedule files schedule_name schedule
+  pub has_schedule : HasSchedule files schedule_name entries
 
 -- What `check` and `plain` take.
 

@@ -1,5 +1,5 @@
 -- How a call ended, and what it left.
-use Rattle.std.specs.Prelude.{◌≡◌, ◌⊎◌, ℕ, ◌≤◌, List, [], ◌∷◌, ◌++◌, length, take, reverse, Option, Some, None, codes, refl}
+use Rattle.std.specs.Prelude.{◌≡◌, ◌⊎◌, ℕ, ◌≤◌, false, List, [], ◌∷◌, ◌++◌, length, take, reverse, Option, Some, codes, refl}
 use Rattle.dsm_base.specs.Causes.{Rose}
 use Rattle.dsm_base.specs.Output.{printed_lines}
 use Rattle.dsm_base.specs.Sink.{appended, TakesPart}
@@ -8,8 +8,10 @@ use Rattle.dsm_base.specs.declared.label.Ending.{Ending}
 use Rattle.dsm_base.specs.declared.names.Proc.{Proc}
 use Rattle.dsm_base.specs.Plain.{Turn}
 use Rattle.dsm_check.specs.Programs.{Program}
-use Rattle.dsm_picks.specs.declared.picks.PickEntry.{PickEntry}
-use Rattle.dsm_picks.specs.Picks.{picked_by}
+use Rattle.dsm_sched.specs.declared.picks.PickEntry.{PickEntry}
+use Rattle.dsm_sched.specs.declared.schedule.Entry.{Entry}
+use Rattle.dsm_sched.specs.Picks.{picked_by}
+use Rattle.dsm_sched.specs.Schedules.{units_by}
 use Rattle.dsm_trace.specs.declared.trace.Group.{Group}
 use Rattle.dsm_trace.specs.Fits.{FitsUnits}
 use Rattle.dsm_trace.specs.History.{history, deeds_of, ending_of}
@@ -17,15 +19,15 @@ use Rattle.dsm_trace.specs.OneMemory.{IsOneMemory}
 use Rattle.dsm_small.specs.declared.tree.SmallProgram.{SmallProgram}
 use Rattle.dsm_small.specs.Meaning.{small_first, small_semantics}
 use Rattle.dsm_small.specs.Setups.{small_setup}
-use Rattle.dsm_world.specs.declared.world.Finished.{Finished}
-use Rattle.dsm_world.specs.Finished.{finished_by}
+use Rattle.dsm_base.specs.declared.finished.Finished.{Finished}
+use Rattle.dsm_base.specs.Endings.{endings_of, finished_by}
 use Rattle.dsm_top.specs.declared.status.Status.{Status}
 use Rattle.dsm_top.specs.declared.status.Report.{Report}
-use Rattle.dsm_top.specs.Command.{Command, run, check, plain}
+use Rattle.dsm_command.specs.Commands.{Command, run, check, plain}
 use Rattle.dsm_top.specs.Messages.{message_of}
 use Rattle.dsm_top.specs.Statuses.{status_of_finished}
 use Rattle.dsm_top.specs.Accepted.{IsAccepted, HasFitting, HasPicks}
-use Rattle.dsm_top.specs.PickRuns.{endings_of, IsRunByPicks}
+use Rattle.dsm_top.specs.PickRuns.{IsRunByPicks}
 use Rattle.dsm_top.specs.Refusals.{Given, Refuses}
 
 -- What a call left.
@@ -125,9 +127,9 @@ pub record Ran (program : SmallProgram) (schedule : List Act) (left : Left) (sta
 -- `run`, with a program and a schedule that are accepted
 pub record EndedRun (given : Given) (program schedule : List ℕ) (left : Left) (status : Status) : Type 0 where
   pub small : SmallProgram
-  pub units : List Act
-  pub accepted : IsAccepted given.files program schedule small units
-  pub ran : Ran small units left status
+  pub entries : List Entry
+  pub accepted : IsAccepted given.files program schedule small entries
+  pub ran : Ran small (units_by 2 entries) left status
 
 -- `check`.
 
@@ -188,12 +190,13 @@ pub record Refused (given : Given) (left : Left) (status : Status) : Type 0 wher
 
 -- Any call.
 
--- what the command is for was done
+-- what the command is for was done; `run` has no flags yet, and `load` isn't built
 abbrev pub EndedCommand : Given → Left → Status → Option Command → Type 0
-EndedCommand given left status None = ⊥
-EndedCommand given left status (Some (run program schedule)) = EndedRun given program schedule left status
+EndedCommand given left status (Some (run program schedule false false)) =
+    EndedRun given program schedule left status
 EndedCommand given left status (Some (check program procs)) = EndedCheck given program procs left status
 EndedCommand given left status (Some (plain program picks)) = EndedPlain given program picks left status
+EndedCommand given left status _ = ⊥
 
 -- a call was refused, or did what its command is for
 abbrev pub Ended : Given → Left → Status → Type 0

@@ -1,4 +1,5 @@
 pub mod Command
+pub mod CommandInCode
 pub mod Statuses
 pub mod Messages
 pub mod Accepted

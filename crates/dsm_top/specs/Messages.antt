@@ -5,7 +5,8 @@ use Rattle.dsm_base.specs.declared.act.SchedErr.{SchedErr}
 use Rattle.dsm_syntax.specs.declared.errors.Which.{Which}
 use Rattle.dsm_syntax.specs.declared.errors.ProgErr.{ProgErr}
 use Rattle.dsm_top.specs.declared.status.Status.{Status}
-use Rattle.dsm_top.specs.Command.{Command, files_of}
+use Rattle.dsm_command.specs.Commands.{Command}
+use Rattle.dsm_top.specs.Command.{files_of}
 
 -- the name of a limit
 abbrev pub limit_name : Which → List ℕ

@@ -1,19 +1,16 @@
 -- What stands ready before anything is written.
-use Rattle.std.specs.Prelude.{◌≡◌, ◌≤◌, ℕ, List, Option, Some, Result, Ok, Err, refl}
-use Rattle.std.specs.List.{AllByRecursion}
+use Rattle.std.specs.Prelude.{◌≡◌, ◌≤◌, ℕ, false, List, Option, Some, Result, Ok, Err}
 use Rattle.dsm_base.specs.Causes.{Rose}
-use Rattle.dsm_trace.specs.Fits.{IsWithin}
 use Rattle.dsm_syntax.specs.declared.errors.ProgErr.{ProgErr}
 use Rattle.dsm_check.specs.declared.checked.Checked.{Checked}
 use Rattle.dsm_check.specs.Programs.{Program}
 use Rattle.dsm_check.specs.CheckedViews.{program_of}
 use Rattle.dsm_check.specs.Setups.{fitting}
-use Rattle.dsm_small.specs.Setups.{small_setup}
 use Rattle.dsm_top.specs.declared.status.Status.{Status}
 use Rattle.dsm_top.specs.declared.prepare.Prepared.{Prepared}
 use Rattle.dsm_top.specs.declared.prepare.SmallRun.{SmallRun}
 use Rattle.dsm_top.specs.declared.prepare.PickRun.{PickRun}
-use Rattle.dsm_top.specs.Command.{Command, run, check, plain}
+use Rattle.dsm_command.specs.Commands.{Command, run, check, plain}
 use Rattle.dsm_top.specs.Accepted.{Contents, IsAccepted, IsChecked, HasFitting, HasPicks}
 use Rattle.dsm_top.specs.Refusals.{Given, IsUnchecked, OrMemory}
 
@@ -54,10 +51,9 @@ pub record Keeps (span : Span) (files : Contents) : Type 0 where
   pub same : files ≡ span.files
   pub later : span.before ≤ span.after
 
--- a run can begin: each unit names processors of the setup
-pub record CanRun (prepared : SmallRun) : Type 0 where
-  pub procs : prepared.schedule.procs ≡ 2
-  pub within : AllByRecursion (IsWithin (small_setup prepared.program 2 refl)) prepared.schedule.units
+-- a run can begin: the schedule is for two processors
+abbrev pub CanRun : SmallRun → Type 0
+CanRun prepared = prepared.schedule.procs ≡ 2
 
 -- a run over one memory can begin: each owner is a processor
 abbrev pub CanPick : PickRun → Type 0
@@ -71,8 +67,8 @@ IsReady (Prepared.Plain prepared) = CanPick prepared
 
 -- what a command names is accepted, and this stands ready for it
 abbrev pub IsPrepared : Contents → Option Command → Prepared → Type 0
-IsPrepared files (Some (run program schedule)) (Prepared.Run prepared) =
-    IsAccepted files program schedule prepared.program prepared.schedule.units
+IsPrepared files (Some (run program schedule false false)) (Prepared.Run prepared) =
+    IsAccepted files program schedule prepared.program prepared.schedule.entries
 IsPrepared files (Some (check program procs)) Prepared.Check =
     (found : Program) × HasFitting files program procs found
 IsPrepared files (Some (plain program picks)) (Prepared.Plain prepared) =

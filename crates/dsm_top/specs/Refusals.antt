@@ -1,22 +1,22 @@
 -- Why a call is refused before anything runs.
-use Rattle.std.specs.Prelude.{◌≡◌, ◌≢◌, ◌⊎◌, ℕ, List, Option, Some, None, Result, Ok, Err, zero, suc}
+use Rattle.std.specs.Prelude.{◌≡◌, ◌≢◌, ◌⊎◌, ℕ, Bool, true, false, List, Option, Some, None, Result, Ok, Err, zero, suc}
 use Rattle.dsm_base.specs.Causes.{Rose}
 use Rattle.dsm_base.specs.declared.act.SchedErr.{SchedErr}
 use Rattle.dsm_syntax.specs.declared.errors.ProgErr.{ProgErr}
 use Rattle.dsm_syntax.specs.declared.token.Token.{Token}
 use Rattle.dsm_syntax.specs.Texts.{IsLexed, IsRefused as IsTextRefused}
 use Rattle.dsm_syntax.specs.Tree.{Item}
-use Rattle.dsm_cursor.specs.Lexemes.{lexemes}
-use Rattle.dsm_parse.specs.Programs.{IsProgramOf}
-use Rattle.dsm_parse.specs.Refusals.{IsRefused as AreTokensRefused}
+use Rattle.dsm_syntax.specs.Lexemes.{lexemes}
+use Rattle.dsm_laws_grammar.specs.Programs.{IsProgramOf}
+use Rattle.dsm_laws_grammar.specs.Refusals.{IsRefused as AreTokensRefused}
 use Rattle.dsm_check.specs.Programs.{Program, checked}
 use Rattle.dsm_check.specs.Setups.{fitting}
-use Rattle.dsm_picks.specs.declared.picks.PickEntry.{PickEntry}
-use Rattle.dsm_picks.specs.Entries.{picks_said}
+use Rattle.dsm_sched.specs.declared.picks.PickEntry.{PickEntry}
+use Rattle.dsm_sched.specs.PickTexts.{picks_said}
+use Rattle.dsm_sched.specs.Built.{built_said}
 use Rattle.dsm_small.specs.declared.tree.SmallProgram.{SmallProgram}
-use Rattle.dsm_sched.specs.Entries.{units_of_text}
 use Rattle.dsm_top.specs.declared.status.Status.{Status}
-use Rattle.dsm_top.specs.Command.{Command, run, check, plain}
+use Rattle.dsm_command.specs.Commands.{Command, run, check, plain, load}
 use Rattle.dsm_top.specs.Accepted.{Contents, IsProgram, IsProgramText, IsScheduleText, HasProgram, HasChecked, HasPicks}
 
 -- what a call was given: the command that its words are, what the files hold, and how often they had
@@ -59,11 +59,11 @@ pub record HasNoProgram (files : Contents) (name : List ℕ) : Type 0 where
   pub is_read : IsProgramText files name text
   pub is_none : IsNoProgram text
 
--- the schedule was read, and is none
-pub record HasNoSchedule (files : Contents) (name : List ℕ) : Type 0 where
+-- the schedule was read, and is refused
+pub record HasNoSchedule (files : Contents) (name : List ℕ) (error : SchedErr) : Type 0 where
   pub text : List ℕ
   pub is_read : IsScheduleText files name text
-  pub is_none : units_of_text text ≡ None
+  pub is_refused : built_said text ≡ Err error
 
 -- the program of `run` couldn't be read, or is none
 abbrev pub RefusesSmall : Given → List ℕ → Status → Type 0
@@ -72,11 +72,10 @@ RefusesSmall given name (Status.ProgramRefused error) =
     (error ≡ ProgErr.NotBuilt 0) × HasNoProgram given.files name
 RefusesSmall given name _ = ⊥
 
--- the schedule couldn't be read, or is none
+-- the schedule couldn't be read, or is refused
 abbrev pub RefusesSchedule : Given → List ℕ → Status → Type 0
 RefusesSchedule given name (Status.ReadFault (suc zero)) = FilesRose given
-RefusesSchedule given name (Status.ScheduleRefused error) =
-    (error ≡ SchedErr.NotBuilt 0) × HasNoSchedule given.files name
+RefusesSchedule given name (Status.ScheduleRefused error) = HasNoSchedule given.files name error
 RefusesSchedule given name _ = ⊥
 
 -- the program is one, and the schedule behind it is refused
@@ -164,12 +163,15 @@ RefusesPlain given program picks status =
 
 -- Any call.
 
--- why a call of a command, or of words that are none, is refused
+-- why a call is refused: of words that are no command, of a command, and of one that isn't built yet
 abbrev pub RefusesCommand : Given → Status → Option Command → Type 0
 RefusesCommand given status None = status ≡ Status.WordsRefused
-RefusesCommand given status (Some (run program schedule)) = RefusesRun given program schedule status
+RefusesCommand given status (Some (run program schedule false false)) =
+    RefusesRun given program schedule status
+RefusesCommand given status (Some (run program schedule trace state)) = status ≡ Status.WordsRefused
 RefusesCommand given status (Some (check program procs)) = RefusesCheck given program procs status
 RefusesCommand given status (Some (plain program picks)) = RefusesPlain given program picks status
+RefusesCommand given status (Some (load seed)) = status ≡ Status.WordsRefused
 
 -- why a call is refused with a status; the other statuses refuse none
 abbrev pub Refuses : Given → Status → Type 0

@@ -3,7 +3,7 @@ use Rattle.std.specs.Prelude.{ℕ}
 use Rattle.dsm_base.specs.declared.act.SchedErr.{SchedErr}
 use Rattle.dsm_base.specs.declared.errors.ReadErr.{ReadErr}
 use Rattle.dsm_syntax.specs.declared.errors.ProgErr.{ProgErr}
-use Rattle.dsm_world.specs.declared.world.Finished.{Finished}
+use Rattle.dsm_base.specs.declared.finished.Finished.{Finished}
 use Rattle.dsm_top.specs.declared.status.Status.{Status}
 
 -- the exit status

@@ -2,7 +2,6 @@
 #![tactic(auto)]
 
 mod check;
-mod command;
 mod host;
 mod lines;
 mod message;
@@ -13,7 +12,6 @@ mod program;
 mod run;
 mod status;
 mod tool;
-mod turn;
 
 pub use host::{HostFiles, StdSink};
 pub use status::{Report, Status};

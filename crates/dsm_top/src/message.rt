@@ -1,14 +1,16 @@
 //! The messages of refusals.
 
-ghost use Rattle.std.specs.Prelude.{◌≡◌, [], ◌++◌, option_map, OnOk, IfOk};
+ghost use Rattle.std.specs.Prelude.{◌≡◌, [], ◌++◌, get_or, string_bytes, MatchOption, OnOk, IfOk};
 ghost use Rattle.std.specs.Fmt.{decimal};
 ghost use Rattle.dsm_syntax.specs.declared.errors.ProgErr.{ProgErr};
-ghost use Rattle.dsm_top.specs.Command.{command_in};
+ghost use Rattle.dsm_command.specs.InCode.{command_in};
+ghost use Rattle.dsm_top.specs.Command.{files_of};
+ghost use Rattle.dsm_top.specs.CommandInCode.{told_command};
 ghost use Rattle.dsm_top.specs.Messages.{numbered, at_line, named, limit_name, program_text, schedule_text, file_name, refusal_text, message_line};
 
-use crate::command::Command;
 use crate::status::Status;
 use dsm_base::{MemFault, SchedErr, Text};
+use dsm_command::Command;
 use dsm_syntax::{ProgErr, Which};
 use std::alloc::Global;
 use std::marker::Model;
@@ -150,7 +152,8 @@ fn write_arguments(
     wanted: u32,
     line: u32,
 ) -> Result<(), MemFault>
-    ensures { OnOk result (out.new ≡ out.old ++ program_text (ProgErr.ArgCount name.now line given wanted)) }
+    ensures { OnOk result
+        (out.new ≡ out.old ++ program_text (ProgErr.ArgCount name.now line given wanted)) }
 {
     out.bytes(name.as_slice())?;
     out.text(" takes ")?;
@@ -230,14 +233,29 @@ fn write_schedule_error(out: &mut Line, alloc: Global, error: SchedErr) -> Resul
     }
 }
 
+/// The file with this number: 0 is the first that the command names.
+fn file_of(command: &Command, number: u8) -> Option<&String>
+    ensures { MatchOption result (get_or (files_of (command_in command.now)) number [] ≡ [])
+        (λ name. get_or (files_of (command_in command.now)) number [] ≡ string_bytes name.now) }
+{
+    match (command, number) {
+        (Command::Run { program, .. }, 0) => Some(program),
+        (Command::Check { program, .. }, 0) => Some(program),
+        (Command::Plain { program, .. }, 0) => Some(program),
+        (Command::Run { schedule, .. }, 1) => Some(schedule),
+        (Command::Plain { picks, .. }, 1) => Some(picks),
+        _ => None,
+    }
+}
+
 /// The name of the file that could not be read, by its number.
-fn write_file_name(out: &mut Line, command: Option<Command<'_>>, file: u8) -> Result<(), MemFault>
-    ensures { OnOk result (out.new ≡ out.old ++ file_name (option_map command_in command.entry) file) }
+fn write_file_name(out: &mut Line, command: Option<&Command>, file: u8) -> Result<(), MemFault>
+    ensures { OnOk result (out.new ≡ out.old ++ file_name (told_command command.entry) file) }
 {
     let Some(command) = command else {
         return Ok(());
     };
-    match command.file(file) {
+    match file_of(command, file) {
         Some(name) => out.text(name.as_str()),
         None => Ok(()),
     }
@@ -247,10 +265,11 @@ fn write_file_name(out: &mut Line, command: Option<Command<'_>>, file: u8) -> Re
 fn write_refusal(
     out: &mut Line,
     alloc: Global,
-    command: Option<Command<'_>>,
+    command: Option<&Command>,
     status: &Status,
 ) -> Result<(), MemFault>
-    ensures { OnOk result (out.new ≡ out.old ++ refusal_text (option_map command_in command.entry) status.now) }
+    ensures { OnOk result
+        (out.new ≡ out.old ++ refusal_text (told_command command.entry) status.now) }
 {
     match status {
         Status::ProgramRefused(error) => {
@@ -273,7 +292,7 @@ fn write_refusal(
 /// The message of a refusal: one line.
 pub(crate) fn message(
     alloc: Global,
-    command: Option<Command<'_>>,
+    command: Option<&Command>,
     status: &Status,
 ) -> Result<Line, MemFault>
     ensures { IfOk result (λ line. line ≡ message_line (refusal_text (option_map command_in command.entry) status.now)) }

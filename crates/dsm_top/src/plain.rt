@@ -1,106 +1,36 @@
 //! The run of a program over one memory, by a list of picks.
 
-ghost use Rattle.std.specs.Prelude.{◌≡◌, ◌≤◌, ◌<◌, ◌⊎◌, ◌+◌, [], ◌++◌, length, reverse, take, List, IsTrue, Ok, OnOk, IfOk, IfErr, is_some};
-ghost use Rattle.std.specs.List.{list_all};
+ghost use Rattle.std.specs.Prelude.{◌≡◌, ◌≤◌, ◌<◌, ◌+◌, [], ◌++◌, length, take, List, IsTrue, Ok, OnOk, IfOk, IfErr};
 ghost use Rattle.dsm_base.specs.Causes.{HasCause};
-ghost use Rattle.dsm_base.specs.Family.{update};
 ghost use Rattle.dsm_base.specs.Output.{printed_lines};
 ghost use Rattle.dsm_base.specs.Plain.{Turn};
 ghost use Rattle.dsm_base.specs.declared.setup.Setup.{Setup};
 ghost use Rattle.dsm_base.specs.Setups.{is_proc_count};
 ghost use Rattle.dsm_base.specs.Sink.{appended};
-ghost use Rattle.dsm_trace.specs.Processor.{ending_after};
-ghost use Rattle.dsm_world.specs.Finished.{finished_by, is_ended};
 ghost use Rattle.dsm_check.specs.Programs.{Program};
 ghost use Rattle.dsm_check.specs.CheckedViews.{program_of};
 ghost use Rattle.dsm_check.specs.Setups.{IsSetupOf, fitting};
-ghost use Rattle.dsm_picks.specs.Entries.{picked};
+ghost use Rattle.dsm_plain.specs.Machine.{IsWhole};
+ghost use Rattle.dsm_sched.specs.PickTexts.{picked};
 ghost use Rattle.dsm_top.specs.Ended.{left_by};
-ghost use Rattle.dsm_top.specs.PlainRuns.{IsPicked};
-ghost use Rattle.dsm_top.specs.PickRuns.{endings_of, program_run};
+ghost use Rattle.dsm_top.specs.PickRuns.{program_run};
 ghost use Rattle.dsm_top.specs.Prepared.{CanPick};
 ghost use Rattle.dsm_top.specs.Runs.{WroteCut};
-ghost use Rattle.dsm_plain.specs.Machine.{machine_of};
-ghost use Rattle.dsm_top.specs.PlainRuns.{endings_in, program_in, next_turns, IsWholeRun, IsAt};
+ghost use Rattle.dsm_top.specs.PlainRuns.{program_in, next_turns, IsAt, IsPicked};
 
-use crate::message::Line;
 use crate::output::put_all;
 use crate::prepare::PickRun;
 use crate::status::{Report, Status};
-use crate::turn::turn_line;
-use dsm_base::{Ending, Label, MemFault, Proc, ReadErr, Sink};
+use dsm_base::{MemFault, Proc, ReadErr, Sink, Text, turn_line};
 use dsm_check::Checked;
-use dsm_picks::Picks;
 use dsm_plain::{Picked, Plain};
-use dsm_world::Finished;
+use dsm_sched::Picks;
 use std::alloc::Global;
-
-/// Whether each thread has ended.
-fn all_ended(endings: &[Option<Ending>]) -> bool
-    ensures { result ≡ list_all is_ended endings.now }
-{
-    endings
-        .iter()
-        .all(|ending| matches!(ending, Some(Ending::Ended)))
-}
-
-/// Whether each thread has ended or stopped.
-fn all_over(endings: &[Option<Ending>]) -> bool
-    ensures { result ≡ list_all is_some endings.now }
-{
-    endings.iter().all(|ending| ending.is_some())
-}
-
-/// How each thread came to be over, by processor.
-#[derive(Drop)]
-pub(crate) struct Endings {
-    list: Vec<Option<Ending>>,
-}
-
-impl Endings {
-    /// No thread is over.
-    fn new(alloc: Global, procs: u8) -> Result<Endings, MemFault>
-        ensures count { IfOk result (λ endings. length endings.list.items ≡ procs) }
-        ensures none { IfOk result (λ endings. endings_in endings ≡ endings_of []) }
-    {
-        Ok(Endings {
-            list: vec![in alloc; None; usize::from(procs)]?,
-        })
-    }
-
-    /// A processor has made a turn.
-    fn note(&mut self, proc: Proc, label: &Label)
-        requires { proc.0 < length self.old.list.items }
-        ensures count { length self.new.list.items ≡ length self.old.list.items }
-        ensures endings { endings_in self.new ≡ update (endings_in self.old) proc.0 (ending_after (endings_in self.old proc.0) label.now) }
-    {
-        let ending = match label {
-            Label::End => Ending::Ended,
-            Label::Stop(..) => Ending::Stopped,
-            _ => return,
-        };
-        self.list[usize::from(proc.0)] = Some(ending);
-    }
-
-    /// How far the threads have come.
-    fn finished(&self) -> Finished
-        ensures { result ≡ finished_by (length self.now.list.items) (endings_in self.now) }
-    {
-        if all_ended(&self.list) {
-            Finished::Done
-        } else if all_over(&self.list) {
-            Finished::Stopped
-        } else {
-            Finished::Unfinished
-        }
-    }
-}
 
 /// A run over one memory, and how many picks were applied.
 #[derive(Drop)]
 pub(crate) struct PlainRun<'a> {
     machine: Plain<'a>,
-    endings: Endings,
     units: u32,
 }
 
@@ -109,35 +39,37 @@ impl<'a> PlainRun<'a> {
     fn start(alloc: Global, program: &'a Checked, procs: u8) -> Result<PlainRun<'a>, MemFault>
         requires procs { IsTrue (is_proc_count procs) }
         requires fits { fitting (program_of program.now) procs ≡ Ok tt }
-        ensures setup { IfOk result (λ run. IsSetupOf (program_of program.now) procs run.machine.setup) }
-        ensures at { IfOk result (λ run. IsAt (program_of program.now) run.machine.setup run []) }
-        ensures whole { IfOk result IsWholeRun }
+        ensures setup { IfOk result (λ run.
+            IsSetupOf (program_of program.now) procs run.machine.setup) }
+        ensures at { IfOk result (λ run.
+            IsAt (program_of program.now) run.machine.setup run []) }
+        ensures whole { IfOk result (λ run. IsWhole run.machine) }
         ensures units { IfOk result (λ run. run.units ≡ 0) }
     {
         Ok(PlainRun {
             machine: Plain::new(alloc, program, procs)?,
-            endings: Endings::new(alloc, procs)?,
             units: 0,
         })
     }
 
-    /// Applies a pick, and gives the line that it prints, if any. For want of memory no pick is counted.
-    fn pick(&mut self, alloc: Global, proc: Proc) -> Result<Line, MemFault>
-        requires whole { IsWholeRun self.old }
+    /// Applies a pick, and gives the line that it prints, if any. Out of memory no pick is counted.
+    fn pick(&mut self, alloc: Global, proc: Proc) -> Result<Text, MemFault>
+        requires whole { IsWhole self.old.machine }
         requires processor { proc.0 < self.old.machine.setup.procs }
         requires count { self.old.units < 500000 }
-        ensures at { (program : Program) (setup : Setup) (turns : List Turn) → IsAt program setup self.old turns → OnOk result (IsAt program setup self.new (next_turns program setup turns proc)) }
-        ensures line { (program : Program) (setup : Setup) (turns : List Turn) → IsAt program setup self.old turns → IfOk result (λ line. printed_lines (next_turns program setup turns proc) ≡ printed_lines turns ++ line) }
-        ensures whole { OnOk result (IsWholeRun self.new) }
+        ensures at { (program : Program) (setup : Setup) (turns : List Turn) →
+            IsAt program setup self.old turns →
+            OnOk result (IsAt program setup self.new (next_turns program setup turns proc)) }
+        ensures line { (program : Program) (setup : Setup) (turns : List Turn) →
+            IsAt program setup self.old turns → IfOk result (λ line.
+            printed_lines (next_turns program setup turns proc) ≡ printed_lines turns ++ line) }
+        ensures whole { OnOk result (IsWhole self.new.machine) }
         ensures units { OnOk result (self.new.units ≡ self.old.units + 1) }
         ensures err { IfErr result (λ _. self.new.units ≡ self.old.units) }
     {
         let line = match self.machine.pick(proc)? {
-            Picked::Did(label) => {
-                self.endings.note(proc, &label);
-                turn_line(alloc, proc, &label)?
-            }
-            _ => Line::new(alloc),
+            Picked::Did(label) => turn_line(alloc, proc, &label)?,
+            _ => Text::from_vec(Vec::new(alloc)),
         };
         self.units += 1;
         Ok(line)
@@ -145,23 +77,29 @@ impl<'a> PlainRun<'a> {
 }
 
 /// Applies picks to a run that has had none, each with its line put before the next. After an error a
-/// part of the lines is put, or for want of memory a front of them.
+/// part of the lines is put, or out of memory a front of them.
 fn apply_picks<K: Sink>(
     alloc: Global,
     run: &mut PlainRun<'_>,
     picks: &Picks,
     out: &mut K,
 ) -> Result<(), ReadErr>
-    requires whole { IsWholeRun run.old }
+    requires whole { IsWhole run.old.machine }
     requires at { IsAt (program_in run.old) run.old.machine.setup run.old [] }
     requires procs { run.old.machine.setup.procs ≡ picks.now.procs }
     requires no_units { run.old.units ≡ 0 }
     ensures count { run.new.units ≤ length (picked picks.now) }
     ensures all { OnOk result (run.new.units ≡ length (picked picks.now)) }
-    ensures whole { OnOk result (IsWholeRun run.new) }
-    ensures at { OnOk result (IsAt (program_in run.old) run.old.machine.setup run.new (program_run (program_in run.old) run.old.machine.setup (take run.new.units (picked picks.now)))) }
-    ensures wrote { OnOk result (K.sink_holds out.new ≡ appended (K.sink_holds out.old) (printed_lines (program_run (program_in run.old) run.old.machine.setup (take run.new.units (picked picks.now))))) }
-    ensures cut { IfErr result (WroteCut (K.sink_holds out.old) (K.sink_holds out.new) (printed_lines (program_run (program_in run.old) run.old.machine.setup (take run.new.units (picked picks.now))))) }
+    ensures whole { OnOk result (IsWhole run.new.machine) }
+    ensures at { OnOk result (IsAt (program_in run.old) run.old.machine.setup run.new
+        (program_run (program_in run.old) run.old.machine.setup
+            (take run.new.units (picked picks.now)))) }
+    ensures wrote { OnOk result (K.sink_holds out.new ≡ appended (K.sink_holds out.old)
+        (printed_lines (program_run (program_in run.old) run.old.machine.setup
+            (take run.new.units (picked picks.now))))) }
+    ensures cut { IfErr result (WroteCut (K.sink_holds out.old) (K.sink_holds out.new)
+        (printed_lines (program_run (program_in run.old) run.old.machine.setup
+            (take run.new.units (picked picks.now))))) }
     ensures cause { HasCause (K.sink_faults out.old) (K.sink_faults out.new) result }
 {
     'picks: while let Some(proc) = picks.pick(run.units) {
@@ -183,7 +121,7 @@ pub(crate) fn run_picks<K: Sink>(alloc: Global, prepared: PickRun, out: &mut K) 
         return Report::untraced(alloc, Status::Memory, 0);
     };
     let status = match apply_picks(alloc, &mut run, &prepared.picks, out) {
-        Ok(()) => Status::from(run.endings.finished()),
+        Ok(()) => Status::from(run.machine.finished()),
         Err(error) => Status::from(error),
     };
     Report::untraced(alloc, status, run.units)

@@ -4,17 +4,16 @@ ghost use Rattle.std.specs.Prelude.{◌≡◌, Some, Ok, string_bytes, IfOk, IfE
 ghost use Rattle.dsm_check.specs.CheckedViews.{program_of};
 ghost use Rattle.dsm_check.specs.Setups.{fitting};
 ghost use Rattle.dsm_top.specs.Accepted.{IsText, HasProgram, HasSchedule, IsAccepted, HasChecked, HasFitting, HasPicks};
-ghost use Rattle.dsm_top.specs.Command.{command_in};
+ghost use Rattle.dsm_command.specs.InCode.{command_in};
 ghost use Rattle.dsm_top.specs.Refusals.{given_by, RefusesSmall, RefusesSchedule, RefusesRun, RefusesProgram, RefusesPicks, RefusesOwner, RefusesCheck, RefusesPlain, RefusesOrMemory};
 ghost use Rattle.dsm_top.specs.Prepared.{span_of, IsUnread, RefusesIn, Keeps, CanRun, CanPick, IsReady, IsPrepared};
 
-use crate::command::Command;
 use crate::program::{read_checked, read_program};
 use crate::status::Status;
 use dsm_base::{Files, ReadErr};
 use dsm_check::{Checked, fit};
-use dsm_picks::{Picks, read_picks};
-use dsm_sched::{MOST_BYTES, Schedule, read_schedule};
+use dsm_command::Command;
+use dsm_sched::{MOST_BYTES, Picks, Schedule, read_picks, read_schedule};
 use dsm_small::SmallProgram;
 use dsm_syntax::MOST_TEXT;
 use std::alloc::Global;
@@ -80,7 +79,7 @@ fn small_of<F: Files>(alloc: Global, name: &String, files: &mut F) -> Result<Sma
 /// Reads the schedule of `run`.
 fn schedule_of<F: Files>(alloc: Global, name: &String, files: &mut F) -> Result<Schedule, Status>
     ensures schedule { IfOk result (λ schedule.
-        HasSchedule (F.files_hold files.old) (string_bytes name.now) schedule.units) }
+        HasSchedule (F.files_hold files.old) (string_bytes name.now) schedule.entries) }
     ensures procs { IfOk result (λ schedule. schedule.procs ≡ 2) }
     ensures refused { IfErr result
         (RefusesIn (span_of F.files_hold F.files_faults files.old files.new)
@@ -137,7 +136,7 @@ fn prepare_run<F: Files>(
 ) -> Result<SmallRun, Status>
     ensures accepted { IfOk result (λ prepared. IsAccepted (F.files_hold files.old)
         (string_bytes program.now) (string_bytes schedule.now)
-        prepared.program prepared.schedule.units) }
+        prepared.program prepared.schedule.entries) }
     ensures ready { IfOk result CanRun }
     ensures refused { IfErr result
         (RefusesIn (span_of F.files_hold F.files_faults files.old files.new)
@@ -187,29 +186,33 @@ fn prepare_plain<F: Files>(
     Ok(PickRun { program, picks })
 }
 
-/// Reads what a command names.
+/// Reads what a command names. `WordsRefused` for one that isn't built yet: `run` with a flag, and `load`.
 pub(crate) fn prepare<F: Files>(
     alloc: Global,
-    command: Command<'_>,
+    command: &Command,
     files: &mut F,
 ) -> Result<Prepared, Status>
     ensures accepted { IfOk result
-        (IsPrepared (F.files_hold files.old) (Some (command_in command.entry))) }
+        (IsPrepared (F.files_hold files.old) (Some (command_in command.now))) }
     ensures ready { IfOk result IsReady }
     ensures refused { IfErr result (RefusesOrMemory
-        (given_by F.files_hold F.files_faults (Some (command_in command.entry))
+        (given_by F.files_hold F.files_faults (Some (command_in command.now))
             files.old files.new)) }
 {
     match command {
-        Command::Run { program, schedule } => {
-            Ok(Prepared::Run(prepare_run(alloc, program, schedule, files)?))
-        }
+        Command::Run {
+            program,
+            schedule,
+            trace: false,
+            state: false,
+        } => Ok(Prepared::Run(prepare_run(alloc, program, schedule, files)?)),
         Command::Check { program, procs } => {
-            prepare_check(alloc, program, procs, files)?;
+            prepare_check(alloc, program, *procs, files)?;
             Ok(Prepared::Check)
         }
         Command::Plain { program, picks } => {
             Ok(Prepared::Plain(prepare_plain(alloc, program, picks, files)?))
         }
+        Command::Run { .. } | Command::Load { .. } => Err(Status::WordsRefused),
     }
 }

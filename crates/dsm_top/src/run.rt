@@ -1,11 +1,10 @@
 //! The run of a program by a schedule.
 
 ghost use Rattle.std.specs.Prelude.{◌≡◌, ◌≤◌, [], length, IfOk, OnOk, IfErr, refl};
-ghost use Rattle.std.specs.List.{AllByRecursion};
 ghost use Rattle.dsm_base.specs.Causes.{HasCause};
 ghost use Rattle.dsm_base.specs.Sink.{appended};
-ghost use Rattle.dsm_trace.specs.Fits.{IsWithin};
 ghost use Rattle.dsm_world.specs.World.{setup_of, groups_of, units_of};
+ghost use Rattle.dsm_sched.specs.ScheduleTexts.{units_of as acts_of};
 ghost use Rattle.dsm_small.specs.Meaning.{small_first};
 ghost use Rattle.dsm_small.specs.Setups.{small_setup};
 ghost use Rattle.dsm_top.specs.Ended.{left_by, lines_of_trace, Ran};
@@ -15,37 +14,38 @@ ghost use Rattle.dsm_top.specs.Runs.{IsWholeWorld, first_in, FitsFirst, IsSameRu
 use crate::lines::put_lines;
 use crate::prepare::SmallRun;
 use crate::status::{Report, Status};
-use dsm_base::{Act, MemFault, ReadErr, Sink};
+use dsm_base::{MemFault, ReadErr, Sink};
 use dsm_laws_locks::one_memory;
+use dsm_sched::Schedule;
 use dsm_small::{SharedProgram, SmallMaker, SmallProgram};
 use dsm_world::World;
 use std::alloc::Global;
 use std::rc::Rc;
 
-/// Applies units to a world that has had none, each with its lines put before the next. After an error
-/// a part of the lines is put, or for want of memory a front of them.
+/// Applies the units of a schedule to a world that has had none, each with its lines put before the
+/// next. After an error a part of the lines is put, or out of memory a front of them.
 pub(crate) fn apply_units<K: Sink>(
     world: &mut World<SmallMaker>,
-    units: &[Act],
+    schedule: &Schedule,
     out: &mut K,
 ) -> Result<(), ReadErr>
     requires whole { IsWholeWorld world.old }
     requires no_units { units_of world.old ≡ 0 }
     requires no_trace { groups_of world.old ≡ [] }
-    requires within { AllByRecursion (IsWithin (setup_of world.old)) units.now }
+    requires procs { (setup_of world.old).procs ≡ schedule.now.procs }
     ensures same { IsSameRun world.old world.new }
     ensures whole { OnOk result (IsWholeWorld world.new) }
-    ensures count { units_of world.new ≤ length units.now }
-    ensures all { OnOk result (units_of world.new ≡ length units.now) }
-    ensures fits { FitsFirst world.new units.now }
+    ensures count { units_of world.new ≤ length (acts_of schedule.now) }
+    ensures all { OnOk result (units_of world.new ≡ length (acts_of schedule.now)) }
+    ensures fits { FitsFirst world.new (acts_of schedule.now) }
     ensures wrote { OnOk result (K.sink_holds out.new ≡
         appended (K.sink_holds out.old) (lines_of_trace (groups_of world.new))) }
     ensures cut { IfErr result (WroteCut (K.sink_holds out.old) (K.sink_holds out.new)
         (lines_of_trace (groups_of world.new))) }
     ensures cause { HasCause (K.sink_faults out.old) (K.sink_faults out.new) result }
 {
-    for act in units {
-        let lines = world.apply(*act)?;
+    'acts: while let Some(act) = schedule.act(world.units()) {
+        let lines = world.apply(act)?;
         put_lines(out, &lines)?;
     }
     Ok(())
@@ -68,14 +68,14 @@ fn start(alloc: Global, program: SmallProgram, procs: u8) -> Result<World<SmallM
 /// Runs a program by a schedule.
 pub(crate) fn run<K: Sink>(alloc: Global, prepared: SmallRun, out: &mut K) -> Report
     requires { CanRun prepared }
-    ensures { Ran prepared.program prepared.schedule.units
+    ensures { Ran prepared.program (acts_of prepared.schedule)
         (left_by K.sink_holds K.sink_faults out.old out.new result) result.status }
 {
     one_memory::<SmallMaker>();
     let Ok(mut world) = start(alloc, prepared.program, prepared.schedule.procs) else {
         return Report::untraced(alloc, Status::Memory, 0);
     };
-    let status = match apply_units(&mut world, prepared.schedule.units.as_slice(), out) {
+    let status = match apply_units(&mut world, &prepared.schedule, out) {
         Ok(()) => Status::from(world.finished()),
         Err(error) => Status::from(error),
     };

@@ -3,10 +3,9 @@
 ghost use Rattle.std.specs.Prelude.{◌≡◌, []};
 ghost use Rattle.dsm_top.specs.Statuses.{number_of_status};
 
-use dsm_base::{ReadErr, SchedErr};
+use dsm_base::{Finished, ReadErr, SchedErr};
 use dsm_syntax::ProgErr;
 use dsm_trace::Trace;
-use dsm_world::Finished;
 use std::alloc::Global;
 
 /// How a call ended.
@@ -22,7 +21,7 @@ pub enum Status {
     ProgramRefused(ProgErr),
     /// The schedule or the list of picks is refused.
     ScheduleRefused(SchedErr),
-    /// The words are no command.
+    /// The words are no command, or one that isn't built.
     WordsRefused,
     /// A file could not be read: 0 is the first that the words name, 1 the second.
     ReadFault(u8),

@@ -1,14 +1,13 @@
 //! The call that the program makes.
 
-ghost use Rattle.std.specs.Prelude.{◌≡◌, map, option_map, string_bytes, OnOk, IfErr};
-ghost use Rattle.dsm_base.specs.Causes.{HasCause};
-ghost use Rattle.dsm_top.specs.Command.{command_of, command_in};
+ghost use Rattle.std.specs.Prelude.{◌≡◌, map, string_bytes};
+ghost use Rattle.dsm_command.specs.Commands.{command_of};
+ghost use Rattle.dsm_top.specs.CommandInCode.{told_command};
 ghost use Rattle.dsm_top.specs.Prepared.{IsReady, IsPrepared};
 ghost use Rattle.dsm_top.specs.Ended.{left_by, Refused, Ended};
 ghost use Rattle.dsm_top.specs.Refusals.{Given, given_by, RefusesOrMemory};
 
 use crate::check::answer_check;
-use crate::command::{Command, read_command};
 use crate::message::message;
 use crate::output::put_all;
 use crate::plain::run_picks;
@@ -16,16 +15,17 @@ use crate::prepare::{Prepared, prepare};
 use crate::run::run;
 use crate::status::{Report, Status};
 use dsm_base::{Files, Sink};
+use dsm_command::{Command, WordsErr, read_command};
 use std::alloc::Global;
 
 /// Writes the message of a refusal; out of memory has none.
 fn refuse<K: Sink>(
     alloc: Global,
-    command: Option<Command<'_>>,
+    command: Option<&Command>,
     status: Status,
     out: &mut K,
 ) -> Report
-    ensures { (given : Given) → given.command ≡ option_map command_in command.entry →
+    ensures { (given : Given) → given.command ≡ told_command command.entry →
         RefusesOrMemory given status →
         Refused given (left_by K.sink_holds K.sink_faults out.old out.new result) result.status }
 {
@@ -69,11 +69,13 @@ pub fn run_tool<F: Files, K: Sink>(
             files.old files.new)
         (left_by K.sink_holds K.sink_faults out.old out.new result) result.status }
 {
-    let Some(command) = read_command(words.as_slice()) else {
-        return refuse(alloc, None, Status::WordsRefused, out);
+    let command = match read_command(alloc, words) {
+        Ok(command) => command,
+        Err(WordsErr::Refused) => return refuse(alloc, None, Status::WordsRefused, out),
+        Err(WordsErr::Memory) => return Report::untraced(alloc, Status::Memory, 0),
     };
-    match prepare(alloc, command, files) {
+    match prepare(alloc, &command, files) {
         Ok(prepared) => perform(alloc, prepared, out),
-        Err(status) => refuse(alloc, Some(command), status, out),
+        Err(status) => refuse(alloc, Some(&command), status, out),
     }
 }

@@ -1,7 +1,7 @@
 //! Rules of bodies.
 
 use crate::tests::checked::{NAMES, NOTHING, answer, answered};
-use crate::tests::texts::repeated;
+use crate::tests::texts::{repeated, replaced};
 use std::test::Fail;
 
 /// The head of the function that each processor runs.
@@ -122,37 +122,49 @@ fn bodies(rt: HostRuntime) -> Result<(), Fail> {
 }
 
 #[test]
-fn limits_of_a_body(rt: HostRuntime) -> Result<(), Fail> {
-    let alloc = rt.alloc();
-    let eight = "0, 1, 2, 3, 4, 5, 6, 7";
-    let bytes = repeated(alloc, "x", 96)?;
-    let all = format!(in alloc; "print({eight});")?;
-    let nine = format!(in alloc; "print({eight}, k);")?;
-    let long = format!(in alloc; "print(\"{bytes}\");")?;
-    let longer = format!(in alloc; "print(\"{bytes}\", k, \"y\");")?;
-    let both = format!(in alloc; "print({eight}, \"{bytes}y\");")?;
-    let later = format!(in alloc; "k = 1; print({eight}, 8);")?;
-    let table = [
-        (all.as_str(), "accepted"),
-        (nine.as_str(), "Limit { which: PrintParts, count: 9 }"),
-        (long.as_str(), "accepted"),
-        (longer.as_str(), "Limit { which: PrintText, count: 97 }"),
-        (both.as_str(), "Limit { which: PrintParts, count: 9 }"),
-        (later.as_str(), "unknown k 1"),
+fn prints_have_limits(rt: HostRuntime) -> Result<(), Fail> {
+    // A string of 96 bytes stands for each `@`.
+    const TABLE: &[(&str, &str)] = &[
+        ("print(0, 1, 2, 3, 4, 5, 6, 7);", "accepted"),
+        (
+            "print(0, 1, 2, 3, 4, 5, 6, 7, k);",
+            "Limit { which: PrintParts, count: 9 }",
+        ),
+        ("print(\"@\");", "accepted"),
+        (
+            "print(\"@\", k, \"y\");",
+            "Limit { which: PrintText, count: 97 }",
+        ),
+        (
+            "print(0, 1, 2, 3, 4, 5, 6, 7, \"@y\");",
+            "Limit { which: PrintParts, count: 9 }",
+        ),
+        ("k = 1; print(0, 1, 2, 3, 4, 5, 6, 7, 8);", "unknown k 1"),
     ];
-    answered(&rt, alloc, MAIN, "}", table.as_slice())?;
-    let table = [
+    let bytes = repeated(rt.alloc(), "x", 96)?;
+    for &(text, wanted) in TABLE {
+        let text = replaced(rt.alloc(), text, bytes.as_str())?;
+        let text = format!(in rt.alloc(); "{MAIN}{text}}}")?;
+        assert_eq!(rt; answer(rt.alloc(), text.as_str())?.as_str(), wanted);
+    }
+    Ok(())
+}
+
+#[test]
+fn variables_have_a_limit(rt: HostRuntime) -> Result<(), Fail> {
+    const TOO_MANY: &str = "Limit { which: Slots, count: 193 }";
+    const TABLE: &[(&str, usize, &str, &str)] = &[
         ("", 192, "", "accepted"),
-        ("", 193, "", "Limit { which: Slots, count: 193 }"),
-        ("", 192, "int j; int j;", "Limit { which: Slots, count: 193 }"),
+        ("", 193, "", TOO_MANY),
+        ("", 192, "int j; int j;", TOO_MANY),
         ("", 191, "int j; int j;", "twice j 1"),
         ("int me, int n", 190, "", "accepted"),
-        ("int me, int n", 191, "", "Limit { which: Slots, count: 193 }"),
+        ("int me, int n", 191, "", TOO_MANY),
     ];
-    for (params, count, rest, wanted) in table {
-        let blocks = repeated(alloc, "{ int i; }", count)?;
-        let text = format!(in alloc; "void f({params}) {{{blocks}{rest}}} {NOTHING}")?;
-        assert_eq!(rt; answer(alloc, text.as_str())?.as_str(), wanted);
+    for &(params, count, rest, wanted) in TABLE {
+        let blocks = repeated(rt.alloc(), "{ int i; }", count)?;
+        let text = format!(in rt.alloc(); "void f({params}) {{{blocks}{rest}}} {NOTHING}")?;
+        assert_eq!(rt; answer(rt.alloc(), text.as_str())?.as_str(), wanted);
     }
     Ok(())
 }

@@ -2,9 +2,9 @@
 
 use crate::tests::runs::picked;
 use crate::tests::texts::named;
-use dsm_base::{Fault, Label};
+use dsm_base::{Proc, turn_line};
 use dsm_plain::Picked;
-use std::alloc::{AllocError, Global};
+use std::alloc::Global;
 use std::process::Abort;
 use std::test::Fail;
 
@@ -29,6 +29,10 @@ const CELLS: &str =
 const FAULTY: &str =
     "shared int x; lock_t L; lock_t M[2]; bind(L, x, 0, 1); int q[2]; int f(int k) {\nreturn k ?\nf\n(k - 1) : 0; }\nint main(int me, int n) {";
 
+/// Calls that go so deep, and fault in the last.
+const DEEPER: &str =
+    "int f(int k) { return k ? f(k - 1) : f(1 /\n0); }\nint main(int me, int n) { f(";
+
 /// Functions that end without a value, and early.
 const FUNCTIONS: &str =
     "int nothing(int k) { k = 1; } int early(int k) { if (k) return 1; return 2; } int main(int me, int n) {";
@@ -36,39 +40,23 @@ const FUNCTIONS: &str =
 /// Turns of processor 0 alone.
 const ALONE: &[u8] = &[0; 1000];
 
-fn fault_name(fault: Fault) -> &'static str {
-    match fault {
-        Fault::Overflow => "overflow",
-        Fault::DivZero => "divzero",
-        Fault::Shift => "shift",
-        Fault::Index => "index",
-        Fault::Depth => "depth",
-        Fault::Unbound => "unbound",
-        Fault::Held => "held",
-        Fault::NotHeld => "notheld",
-    }
-}
-
-/// The line that a turn prints, if it prints one.
-fn line_of(alloc: Global, answer: &Picked) -> Result<Option<String>, AllocError> {
-    match answer {
-        Picked::Did(Label::Line(text)) => Ok(Some(named(alloc, text)?)),
-        Picked::Did(Label::Stop(fault, line)) => {
-            let name = fault_name(*fault);
-            Ok(Some(format!(in alloc; "fault {name} line {line}")?))
-        }
-        _ => Ok(None),
-    }
-}
-
-/// The lines that processor 0 of three prints where it makes its turns alone.
+/// The lines that processor 0 of three prints where it makes its turns alone, each behind `P0: `.
 fn printed(alloc: Global, program: &str) -> Result<String, Fail> {
     let mut out = String::new(alloc);
     for answer in &picked(alloc, program, ALONE)? {
-        if let Some(line) = line_of(alloc, answer)? {
-            out.push_str(line.as_str())?;
-            out.push_str("\n")?;
+        if let Picked::Did(label) = answer {
+            let line = turn_line(alloc, Proc(0), label)?;
+            out.push_str(named(alloc, &line)?.as_str())?;
         }
+    }
+    Ok(out)
+}
+
+/// The lines of these texts, which stand one on a line; of no text there is none.
+fn lines(alloc: Global, texts: &str) -> Result<String, Fail> {
+    let mut out = String::new(alloc);
+    for text in texts.lines() {
+        out.push_str(format!(in alloc; "P0: {text}\n")?.as_str())?;
     }
     Ok(out)
 }
@@ -85,7 +73,7 @@ fn print(
     for (text, wanted) in table {
         let program = format!(in alloc; "{start}{text}{end}")?;
         let found = printed(alloc, program.as_str())?;
-        assert_eq!(rt; found.trim_end(), *wanted, "{text}");
+        assert_eq!(rt; found.as_str(), lines(alloc, wanted)?.as_str(), "{text}");
     }
     Ok(())
 }
@@ -191,6 +179,48 @@ fn conditions(rt: HostRuntime) -> Result<(), Fail> {
 }
 
 #[test]
+fn grouping(rt: HostRuntime) -> Result<(), Fail> {
+    const TABLE: &[(&str, &str)] = &[
+        // Those of one level, from the left.
+        ("10 - 3 - 2", "5"),
+        ("10 - 3 + 2", "9"),
+        ("10 - (3 - 2)", "9"),
+        ("20 / 3 * 3 % 7", "4"),
+        ("1 << 2 >> 1", "2"),
+        ("2 < 3 >= 1", "1"),
+        ("1 == 2 != 2", "1"),
+        // Those of neighbouring levels, both ways.
+        ("!2 * 0", "0"),
+        ("~1 * 2", "-4"),
+        ("2 + 3 * 4", "14"),
+        ("2 * 3 + 4", "10"),
+        ("1 << 1 + 1", "4"),
+        ("1 + 1 << 1", "4"),
+        ("5 < 1 << 3", "1"),
+        ("1 << 3 < 5", "0"),
+        ("2 == 3 < 4", "0"),
+        ("0 < 4 == 1", "1"),
+        ("6 & 2 == 2", "0"),
+        ("2 == 2 & 6", "0"),
+        ("1 ^ 3 & 2", "3"),
+        ("2 & 3 ^ 1", "3"),
+        ("1 | 3 ^ 1", "3"),
+        ("1 ^ 1 | 1", "1"),
+        ("0 && 0 | 1", "0"),
+        ("1 | 0 && 0", "0"),
+        ("1 || 0 && 0", "1"),
+        ("0 && 0 || 1", "1"),
+        ("0 || 1 ? 2 : 3", "2"),
+        ("1 ? 2 : 0 || 3", "2"),
+        ("1 ? 0 ? 2 : 3 : 4", "3"),
+        ("0 ? 1 : 0 ? 2 : 3", "3"),
+        ("!-~+1", "0"),
+        ("-(2 + 3)", "-5"),
+    ];
+    print(&rt, rt.alloc(), NUMBERS, "); }", TABLE)
+}
+
+#[test]
 fn assignments(rt: HostRuntime) -> Result<(), Fail> {
     const TABLE: &[(&str, &str)] = &[
         ("x = 3", "3 3"),
@@ -209,6 +239,8 @@ fn assignments(rt: HostRuntime) -> Result<(), Fail> {
         ("x--", "10 9"),
         ("--x", "9 9"),
         ("p = x = 4", "4 4"),
+        ("x = 0 ? 2 : 3", "3 3"),
+        ("x = 2 == 2", "1 1"),
         ("x += x++", "20 20"),
         ("x + x++", "20 11"),
         ("x++ + x", "21 11"),
@@ -284,7 +316,6 @@ fn order(rt: HostRuntime) -> Result<(), Fail> {
 
 #[test]
 fn lines_of_faults(rt: HostRuntime) -> Result<(), Fail> {
-    let alloc = rt.alloc();
     const TABLE: &[(&str, &str)] = &[
         ("print(1\n/\n0);", "fault divzero line 6"),
         (
@@ -325,11 +356,9 @@ fn lines_of_faults(rt: HostRuntime) -> Result<(), Fail> {
         ("release(\nL\n);", "fault notheld line 6"),
         ("print(f(254)); print(f(255));", "0\nfault depth line 3"),
     ];
-    print(&rt, alloc, FAULTY, " }", TABLE)?;
-    const DEEP: &str =
-        "int f(int k) { return k ? f(k - 1) : f(1 /\n0); }\nint main(int me, int n) { f(254); }";
-    assert_eq!(rt; printed(alloc, DEEP)?.as_str(), "fault divzero line 1\n");
-    Ok(())
+    print(&rt, rt.alloc(), FAULTY, " }", TABLE)?;
+    const DEEP: &[(&str, &str)] = &[("254", "fault divzero line 1")];
+    print(&rt, rt.alloc(), DEEPER, "); }", DEEP)
 }
 
 #[test]
@@ -356,6 +385,13 @@ fn statements(rt: HostRuntime) -> Result<(), Fail> {
             "3",
         ),
         ("if (0) print(1);", ""),
+        ("if (1) if (0) print(1); else print(2);", "2"),
+        ("if (0) if (1) print(1); else print(2);", ""),
+        ("if (0) { if (1) print(1); } else print(2);", "2"),
+        ("int a = 1, b, c = b = 2; print(a, b, c);", "122"),
+        ("for (int i = 0, j = 2; i < j; i++) print(i, j);", "02\n12"),
+        ("int i; for (i = 2; i; --i) print(i);", "2\n1"),
+        ("for (; ; ) break; ;{}{;{}}", ""),
         ("print(nothing(7), early(1), early(0));", "012"),
         ("print(\"a\", -1, \"\", 2, \"b\");", "a-12b"),
         ("return 7; print(1);", ""),

@@ -2,12 +2,24 @@
 
 use crate::tests::checked::{NOTHING, answer, answered};
 use std::alloc::{AllocError, Global};
+use std::process::Abort;
 use std::test::Fail;
 
 #[test]
 fn names_of_a_file(rt: HostRuntime) -> Result<(), Fail> {
     let alloc = rt.alloc();
     const TABLE: &[(&str, &str)] = &[
+        (
+            "shared int a, b[2]; int c[3], d; lock_t L[4], M; barrier_t B, C; bind(M, a, 0, 1); \
+            bindeach(L, b, 1); bindb(B, a, 0, 1, 1, 2, 3); void f(void) {;} int g(int a) {;;} \
+            int h() {} int main(int me, int n) {}",
+            "BindOverlap { cell: 0, line: 1 }",
+        ),
+        (
+            "shared int a, b[4]; int c[3], d; lock_t L[4], M; barrier_t B, C; bind(M, a, 0, 1); \
+            bindeach(L, b, 1); void f(void) {;} int g(int a) {;;} int main(int me, int n) {}",
+            "accepted",
+        ),
         ("int a; int a;", "twice a 1"),
         ("int a, b,\na;", "twice a 2"),
         ("lock_t a;\nbarrier_t a;", "twice a 2"),
@@ -66,44 +78,66 @@ fn with_params(alloc: Global, count: u32) -> Result<String, AllocError> {
     Ok(text)
 }
 
+/// So many times a barrier.
+fn barriers(alloc: Global, count: u32) -> Result<String, AllocError> {
+    let mut text = String::new(alloc);
+    for number in 0..count {
+        text.push_str(format!(in alloc; "barrier_t b{number};")?.as_str())?;
+    }
+    Ok(text)
+}
+
+/// A text is refused for this, with the program that does nothing behind it.
+fn is_answered(rt: &impl Abort, alloc: Global, text: &str, wanted: &str) -> Result<(), Fail> {
+    let text = format!(in alloc; "{text}{NOTHING}")?;
+    assert_eq!(rt; answer(alloc, text.as_str())?.as_str(), wanted);
+    Ok(())
+}
+
 #[test]
-fn limits_of_a_file(rt: HostRuntime) -> Result<(), Fail> {
-    let alloc = rt.alloc();
-    let most = ["lock_t L[256];", "shared int a[65536];", "int a[16384];"];
-    for text in most {
-        let text = format!(in alloc; "{text}{NOTHING}")?;
-        assert_eq!(rt;
-            answer(alloc, text.as_str())?.as_str(),
-            "accepted",
-            "{text}"
-        );
+fn cells_and_locks_have_limits(rt: HostRuntime) -> Result<(), Fail> {
+    const MOST: &[(&str, &str)] = &[
+        ("lock_t L[256];", "accepted"),
+        ("shared int a[65536];", "accepted"),
+        ("int a[16384];", "accepted"),
+    ];
+    answered(&rt, rt.alloc(), "", NOTHING, MOST)
+}
+
+#[test]
+fn barriers_have_a_limit(rt: HostRuntime) -> Result<(), Fail> {
+    const TABLE: &[(u32, &str)] = &[
+        (64, "accepted"),
+        (65, "Limit { which: Barriers, count: 65 }"),
+    ];
+    for &(count, wanted) in TABLE {
+        is_answered(&rt, rt.alloc(), barriers(rt.alloc(), count)?.as_str(), wanted)?;
     }
-    let table = [(64, "accepted"), (65, "Limit { which: Barriers, count: 65 }")];
-    for (count, wanted) in table {
-        let mut text = String::new(alloc);
-        for number in 0..count {
-            text.push_str(format!(in alloc; "barrier_t b{number};")?.as_str())?;
-        }
-        text.push_str(NOTHING)?;
-        assert_eq!(rt; answer(alloc, text.as_str())?.as_str(), wanted);
+    Ok(())
+}
+
+#[test]
+fn functions_have_a_limit(rt: HostRuntime) -> Result<(), Fail> {
+    const TABLE: &[(u32, &str)] = &[
+        (255, "accepted"),
+        (256, "Limit { which: Functions, count: 257 }"),
+    ];
+    for &(count, wanted) in TABLE {
+        is_answered(&rt, rt.alloc(), functions(rt.alloc(), count)?.as_str(), wanted)?;
     }
-    let table = [(255, "accepted"), (256, "Limit { which: Functions, count: 257 }")];
-    for (count, wanted) in table {
-        let text = format!(in alloc; "{}{NOTHING}", functions(alloc, count)?)?;
-        assert_eq!(rt; answer(alloc, text.as_str())?.as_str(), wanted);
+    Ok(())
+}
+
+#[test]
+fn parameters_have_a_limit(rt: HostRuntime) -> Result<(), Fail> {
+    const TABLE: &[(&str, u32, &str)] = &[
+        ("", 16, "accepted"),
+        ("", 17, "Limit { which: Params, count: 17 }"),
+        ("int f; ", 17, "twice f 1"),
+    ];
+    for &(before, count, wanted) in TABLE {
+        let text = format!(in rt.alloc(); "{before}{}", with_params(rt.alloc(), count)?)?;
+        is_answered(&rt, rt.alloc(), text.as_str(), wanted)?;
     }
-    let table = [(16, "accepted"), (17, "Limit { which: Params, count: 17 }")];
-    for (count, wanted) in table {
-        let text = format!(in alloc; "{}{NOTHING}", with_params(alloc, count)?)?;
-        assert_eq!(rt; answer(alloc, text.as_str())?.as_str(), wanted);
-    }
-    let wide = with_params(alloc, 17)?;
-    let text = format!(in alloc; "int f; {wide}")?;
-    assert_eq!(rt; answer(alloc, text.as_str())?.as_str(), "twice f 1");
-    let text = format!(in alloc; "{}{wide}", functions(alloc, 256)?)?;
-    assert_eq!(rt;
-        answer(alloc, text.as_str())?.as_str(),
-        "Limit { which: Functions, count: 257 }"
-    );
     Ok(())
 }

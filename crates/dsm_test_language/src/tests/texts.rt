@@ -12,6 +12,18 @@ pub fn repeated(alloc: Global, part: &str, times: usize) -> Result<String, Alloc
     Ok(text)
 }
 
+/// A text with this in place of each `@`.
+pub fn replaced(alloc: Global, text: &str, part: &str) -> Result<String, AllocError> {
+    let mut out = String::new(alloc);
+    for char in text.chars() {
+        match char {
+            '@' => out.push_str(part)?,
+            char => out.push(char)?,
+        }
+    }
+    Ok(out)
+}
+
 /// The bytes of a name or a string as text.
 pub fn named(alloc: Global, name: &Text) -> Result<String, AllocError> {
     let mut out = String::new(alloc);

@@ -2,6 +2,7 @@
 
 use dsm_syntax::{Sign, Token, TokenKind, Word, lex};
 use std::alloc::{AllocError, Global};
+use std::process::Abort;
 use std::test::Fail;
 
 const ACCEPTED: &str = "accepted";
@@ -245,42 +246,46 @@ fn each_fault_has_its_line(rt: HostRuntime) -> Result<(), Fail> {
     Ok(())
 }
 
+/// So many times the first text, then the second: what that is refused for.
+fn limits(
+    rt: &impl Abort,
+    alloc: Global,
+    table: &[(&[u8], usize, &[u8], &str)],
+) -> Result<(), Fail> {
+    for &(part, times, end, wanted) in table {
+        let mut text = repeated(alloc, part, times)?;
+        text.extend_from_slice(end)?;
+        let found = refusal(alloc, text.as_slice())?;
+        assert_eq!(rt; found.as_str(), wanted, "{part:?} {times} {end:?}");
+    }
+    Ok(())
+}
+
 #[test]
-fn each_limit_is_met_exactly(rt: HostRuntime) -> Result<(), Fail> {
-    let alloc = rt.alloc();
-    // So many times the first text, then the second.
+fn names_and_texts_have_limits(rt: HostRuntime) -> Result<(), Fail> {
     const TABLE: &[(&[u8], usize, &[u8], &str)] = &[
         (b"a", 64, b"", ACCEPTED),
         (b"a", 65, b"", "Limit { which: Name, count: 65 }"),
         (b"_9", 150, b" b", "Limit { which: Name, count: 300 }"),
         (b"a", 65, b"#", "Limit { which: Name, count: 65 }"),
-        (b";", 65536, b"", ACCEPTED),
+        (b" ", 262144, b"", ACCEPTED),
+        (b"#", 262145, b"", "Limit { which: Text, count: 262145 }"),
+        (b"\n", 262143, b"#", "BadByte { line: 262144 }"),
+    ];
+    limits(&rt, rt.alloc(), TABLE)
+}
+
+#[test]
+fn tokens_have_a_limit(rt: HostRuntime) -> Result<(), Fail> {
+    const TABLE: &[(&[u8], usize, &[u8], &str)] = &[
         (b";", 65536, b" /* */ // a", ACCEPTED),
-        (b";", 65537, b"", TOKENS),
         (b";", 65536, b"\na", TOKENS),
         (b";", 65537, b"#", TOKENS),
+        (b";", 65536, b"/", TOKENS),
         // A fault of the token's own text comes first.
-        (b";", 65536, b"#", "BadByte { line: 1 }"),
         (b";", 65536, b"\n\"a", "BadByte { line: 2 }"),
         (b";", 65536, b"9223372036854775808", LARGE),
         (b";", 65536, b"/*", "BadByte { line: 1 }"),
-        (b";", 65536, b"/", TOKENS),
-        (b";", 65536, b"//", ACCEPTED),
-        (b" ", 262144, b"", ACCEPTED),
-        (b" ", 262145, b"", "Limit { which: Text, count: 262145 }"),
-        (b"#", 262145, b"", "Limit { which: Text, count: 262145 }"),
-        (b" ", 262143, b"#", "BadByte { line: 1 }"),
-        (b"\n", 262143, b"#", "BadByte { line: 262144 }"),
-        (b"#", 300000, b"", "Limit { which: Text, count: 300000 }"),
     ];
-    for &(part, times, end, wanted) in TABLE {
-        let mut text = repeated(alloc, part, times)?;
-        text.extend_from_slice(end)?;
-        assert_eq!(rt;
-            refusal(alloc, text.as_slice())?.as_str(),
-            wanted,
-            "{part:?} {times} {end:?}"
-        );
-    }
-    Ok(())
+    limits(&rt, rt.alloc(), TABLE)
 }

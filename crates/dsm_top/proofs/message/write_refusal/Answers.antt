@@ -1,7 +1,7 @@
 use Rattle.std.proofs.Common.{◌∙◌, ◌++◌, ap, append_assoc}
-use Rattle.std.specs.Prelude.{codes, option_map}
+use Rattle.std.specs.Prelude.{codes}
 use Rattle.std.proofs.lemmas.Result.{on_ok_weaker}
-use Rattle.dsm_top.specs.Command.{command_in}
+use Rattle.dsm_top.specs.CommandInCode.{told_command}
 use Rattle.dsm_top.specs.Messages.{program_text, file_name}
 use Rattle.dsm_top.proofs.message.write_refusal.Goals as goal
 
@@ -14,5 +14,5 @@ returns-in_ok-text-in-ProgramRefused c =
 pub returns-in_ok-text-in-ReadFault : goal.returns-in_ok-text-in-ReadFault
 returns-in_ok-text-in-ReadFault c =
     rw c.in-ReadFault.is (on_ok_weaker c.write_file_name.result (λ e.
-    e ∙ ap (λ x. x ++ file_name (option_map command_in c.args.command) c.in-ReadFault.file) c.in_ok-text-in-ReadFault.ensures
-    ∙ append_assoc c.args.out.now (codes "cannot read ") (file_name (option_map command_in c.args.command) c.in-ReadFault.file)) c.write_file_name.ensures)
+    e ∙ ap (λ x. x ++ file_name (told_command c.args.command) c.in-ReadFault.file) c.in_ok-text-in-ReadFault.ensures
+    ∙ append_assoc c.args.out.now (codes "cannot read ") (file_name (told_command c.args.command) c.in-ReadFault.file)) c.write_file_name.ensures)

@@ -2,7 +2,7 @@ use Rattle.std.proofs.Common.{◌∙◌, ap, sym, subst, arith, take}
 use Rattle.std.proofs.lemmas.Result.{err_from_is_err_and}
 use Rattle.dsm_base.specs.Output.{printed_lines}
 use Rattle.dsm_base.specs.Sink.{appended, TakesPart}
-use Rattle.dsm_picks.specs.Entries.{picked}
+use Rattle.dsm_sched.specs.PickTexts.{picked}
 use Rattle.dsm_top.specs.PickRuns.{program_run}
 use Rattle.dsm_top.specs.PlainRuns.{program_in, IsAt}
 use Rattle.dsm_top.proofs.Applied.{front_whole}

@@ -1,7 +1,7 @@
 use Rattle.std.proofs.Common.{sym, subst, inr, [], length, ◌≤◌}
 use Rattle.dsm_check.specs.Programs.{Program}
 use Rattle.dsm_check.specs.Setups.{IsSetupOf}
-use Rattle.dsm_picks.specs.Entries.{picked}
+use Rattle.dsm_sched.specs.PickTexts.{picked}
 use Rattle.dsm_top.specs.declared.status.Status.{Status}
 use Rattle.dsm_top.specs.Statuses.{status_of_write}
 use Rattle.dsm_top.specs.Ended.{Left, RanPlain}
@@ -32,7 +32,7 @@ returns-clause-ran g c =
     let as_prepared = λ (status : Status) (ran : RanPlain program procs picks left status). subst (λ one. RanPlain one procs picks left status) same ran in
     rw c.untraced-2.ensures (inr (elim c.match-apply_picks.branch [
       | in-Ok-apply_picks w ↦
-          let ran = plain_whole program procs setup is_setup picks left within run w.finished.result w.from-status.result w.finished.ensures w.from-status.ensures w.in-Ok-apply_picks.ensures.whole w.in-Ok-apply_picks.ensures.at w.in-Ok-apply_picks.ensures.all
+          let ran = plain_whole program procs setup is_setup picks left within run w.finished.result w.from-status.result w.finished.ensures w.from-status.ensures w.in-Ok-apply_picks.ensures.at w.in-Ok-apply_picks.ensures.all
           w.in-Ok-apply_picks.ensures.wrote in
           rw (w.status-is) (as_prepared w.from-status.result ran)
       | in-Err w ↦

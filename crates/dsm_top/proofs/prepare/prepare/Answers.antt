@@ -1,6 +1,6 @@
-use Rattle.std.proofs.Common.{Some, string_bytes}
+use Rattle.std.proofs.Common.{Some, string_bytes, true, false, refl}
 use Rattle.std.proofs.lemmas.Result.{err_from_is_err_and}
-use Rattle.dsm_top.specs.Command.{run, check, plain}
+use Rattle.dsm_command.specs.Commands.{run, check, plain}
 use Rattle.dsm_top.proofs.Parts.{whole_part}
 use Rattle.dsm_top.proofs.prepare.prepare.Goals as goal
 
@@ -8,13 +8,13 @@ pub returns-in_err-prepare_run-in-Run-clause-refused : goal.returns-in_err-prepa
 returns-in_err-prepare_run-in-Run-clause-refused g c =
     let p = err_from_is_err_and c.from_residual.result c.from_residual.ensures.1 in
     rw (c.in-Run.is, p.1, p.2) (c.in_err-prepare_run-in-Run.ensures.refused _
-    (whole_part (Some (run (string_bytes c.in-Run.program.now) (string_bytes c.in-Run.schedule.now))) (g.F.Files.files_hold c.args.files.now) (g.F.Files.files_faults c.args.files.now) (g.F.Files.files_faults c.prepare_run.new.files)))
+    (whole_part (Some (run (string_bytes c.in-Run.program.now) (string_bytes c.in-Run.schedule.now) false false)) (g.F.Files.files_hold c.args.files.now) (g.F.Files.files_faults c.args.files.now) (g.F.Files.files_faults c.prepare_run.new.files)))
 
 pub returns-in_err-prepare_check-in-Check-clause-refused : goal.returns-in_err-prepare_check-in-Check-clause-refused
 returns-in_err-prepare_check-in-Check-clause-refused g c =
     let p = err_from_is_err_and c.from_residual-in_err-prepare_check-in-Check.result c.from_residual-in_err-prepare_check-in-Check.ensures.1 in
     rw (c.in-Check.is, p.1, p.2) (c.in_err-prepare_check-in-Check.ensures.refused _
-    (whole_part (Some (check (string_bytes c.in-Check.program.now) c.in-Check.procs)) (g.F.Files.files_hold c.args.files.now) (g.F.Files.files_faults c.args.files.now) (g.F.Files.files_faults c.prepare_check.new.files)))
+    (whole_part (Some (check (string_bytes c.in-Check.program.now) c.in-Check.procs.now)) (g.F.Files.files_hold c.args.files.now) (g.F.Files.files_faults c.args.files.now) (g.F.Files.files_faults c.prepare_check.new.files)))
 
 pub returns-in_err-prepare_plain-in-Plain-clause-refused : goal.returns-in_err-prepare_plain-in-Plain-clause-refused
 returns-in_err-prepare_plain-in-Plain-clause-refused g c =

@@ -1,0 +1,156 @@
+//! Checks.
+
+use crate::tests::called::{Called, are_right};
+use crate::tests::programs::{COUNTER, LARGE, OPEN, OVERLAP, OWNED};
+use std::test::Fail;
+
+#[test]
+fn checks_accept_or_refuse(rt: HostRuntime) -> Result<(), Fail> {
+    const TABLE: &[Called] = &[
+        Called {
+            words: "check prog --procs 2",
+            program: COUNTER,
+            other: "",
+            status: 0,
+            units: 0,
+            written: "ok\n",
+        },
+        Called {
+            words: "check prog --procs 16",
+            program: COUNTER,
+            other: "",
+            status: 0,
+            units: 0,
+            written: "ok\n",
+        },
+        Called {
+            words: "check prog --procs 4",
+            program: OWNED,
+            other: "",
+            status: 0,
+            units: 0,
+            written: "ok\n",
+        },
+        Called {
+            words: "check --procs=4 prog",
+            program: OWNED,
+            other: "",
+            status: 0,
+            units: 0,
+            written: "ok\n",
+        },
+        Called {
+            words: "check --procs 4 -- prog",
+            program: OWNED,
+            other: "",
+            status: 0,
+            units: 0,
+            written: "ok\n",
+        },
+        Called {
+            words: "check -- prog",
+            program: OWNED,
+            other: "",
+            status: 5,
+            units: 0,
+            written: "dsm: words refused\n",
+        },
+        Called {
+            words: "check prog --procs 2",
+            program: OPEN,
+            other: "",
+            status: 3,
+            units: 0,
+            written: "dsm: program refused: unexpected token, line 2\n",
+        },
+        Called {
+            words: "check prog --procs 2",
+            program: OVERLAP,
+            other: "",
+            status: 3,
+            units: 0,
+            written: "dsm: program refused: cell 2 bound twice, line 4\n",
+        },
+        Called {
+            words: "check prog --procs 3",
+            program: OWNED,
+            other: "",
+            status: 3,
+            units: 0,
+            written: "dsm: program refused: owner 3 with 3 processors\n",
+        },
+        Called {
+            words: "check prog --procs 2",
+            program: LARGE,
+            other: "",
+            status: 3,
+            units: 0,
+            written: "dsm: program refused: literal too large, line 2\n",
+        },
+        Called {
+            words: "check prog --procs 2",
+            program: "",
+            other: "",
+            status: 3,
+            units: 0,
+            written: "dsm: program refused: no main\n",
+        },
+        Called {
+            words: "check prog --procs 2",
+            program: "@",
+            other: "",
+            status: 3,
+            units: 0,
+            written: "dsm: program refused: bad byte, line 1\n",
+        },
+        Called {
+            words: "check prog --procs 17",
+            program: COUNTER,
+            other: "",
+            status: 5,
+            units: 0,
+            written: "dsm: words refused\n",
+        },
+        Called {
+            words: "check prog --procs 1",
+            program: COUNTER,
+            other: "",
+            status: 5,
+            units: 0,
+            written: "dsm: words refused\n",
+        },
+        Called {
+            words: "check prog --procs 02",
+            program: COUNTER,
+            other: "",
+            status: 5,
+            units: 0,
+            written: "dsm: words refused\n",
+        },
+        Called {
+            words: "check prog --procs +2",
+            program: COUNTER,
+            other: "",
+            status: 5,
+            units: 0,
+            written: "dsm: words refused\n",
+        },
+        Called {
+            words: "check prog --procs 2 2",
+            program: COUNTER,
+            other: "",
+            status: 5,
+            units: 0,
+            written: "dsm: words refused\n",
+        },
+        Called {
+            words: "check prog --procs",
+            program: COUNTER,
+            other: "",
+            status: 5,
+            units: 0,
+            written: "dsm: words refused\n",
+        },
+    ];
+    are_right(&rt, rt.alloc(), TABLE)
+}

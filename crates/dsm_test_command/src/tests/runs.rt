@@ -1,0 +1,208 @@
+//! Runs by schedules.
+
+use crate::tests::called::{Called, are_right, call, files};
+use crate::tests::programs::{ADDER, FIRST, NOTHING, SECOND, STORED};
+use dsm_base::MemSink;
+use std::alloc::{AllocError, Global};
+use std::test::Fail;
+
+#[test]
+fn runs_print_their_lines(rt: HostRuntime) -> Result<(), Fail> {
+    const TABLE: &[Called] = &[
+        Called {
+            words: "run prog other",
+            program: ADDER,
+            other: FIRST,
+            status: 0,
+            units: 21,
+            written: "P0: x=1\nP1: x=12\n",
+        },
+        Called {
+            words: "run prog other",
+            program: ADDER,
+            other: SECOND,
+            status: 0,
+            units: 19,
+            written: "P1: x=2\nP0: x=21\n",
+        },
+        Called {
+            words: "run prog other",
+            program: STORED,
+            other: "procs 2\nstep 0\nstep 1\n",
+            status: 1,
+            units: 2,
+            written: "P0: fault unbound line 5\nP1: fault unbound line 5\n",
+        },
+        Called {
+            words: "run prog other",
+            program: NOTHING,
+            other: "procs 2\n",
+            status: 2,
+            units: 0,
+            written: "",
+        },
+        Called {
+            words: "run prog other",
+            program: NOTHING,
+            other: "procs 2\nstep 0\nstep 1\n",
+            status: 0,
+            units: 2,
+            written: "",
+        },
+        Called {
+            words: "run prog other",
+            program: NOTHING,
+            other: "procs 2\nfinish 2\n",
+            status: 0,
+            units: 8,
+            written: "",
+        },
+        Called {
+            words: "run prog other",
+            program: ADDER,
+            other: "procs 2\nstep 0 500000\n",
+            status: 2,
+            units: 500000,
+            written: "P0: x=1\n",
+        },
+        Called {
+            words: "run prog other",
+            program: ADDER,
+            other: "# both wait\n\nprocs 2\nstep 1 3\nstep 0 1 # an ask\n",
+            status: 2,
+            units: 4,
+            written: "",
+        },
+    ];
+    are_right(&rt, rt.alloc(), TABLE)
+}
+
+#[test]
+fn schedules_are_refused(rt: HostRuntime) -> Result<(), Fail> {
+    const TABLE: &[Called] = &[
+        Called {
+            words: "run prog other",
+            program: ADDER,
+            other: "",
+            status: 4,
+            units: 0,
+            written: "dsm: schedule refused: no procs\n",
+        },
+        Called {
+            words: "run prog other",
+            program: ADDER,
+            other: "step 0\nprocs 2\n",
+            status: 4,
+            units: 0,
+            written: "dsm: schedule refused: no procs\n",
+        },
+        Called {
+            words: "run prog other",
+            program: ADDER,
+            other: "procs 3\n",
+            status: 4,
+            units: 0,
+            written: "dsm: schedule refused: not built, line 1\n",
+        },
+        Called {
+            words: "run prog other",
+            program: ADDER,
+            other: "procs 2\ncrash 0\n",
+            status: 4,
+            units: 0,
+            written: "dsm: schedule refused: not built, line 2\n",
+        },
+        Called {
+            words: "run prog other",
+            program: ADDER,
+            other: "procs 2\nstep 2\n",
+            status: 4,
+            units: 0,
+            written: "dsm: schedule refused: out of range, line 2\n",
+        },
+        Called {
+            words: "run prog other",
+            program: ADDER,
+            other: "procs 2\nskip 0\n",
+            status: 4,
+            units: 0,
+            written: "dsm: schedule refused: bad entry, line 2\n",
+        },
+        Called {
+            words: "run prog other",
+            program: ADDER,
+            other: "procs 2\ndeliver 0 0\n",
+            status: 4,
+            units: 0,
+            written: "dsm: schedule refused: out of range, line 2\n",
+        },
+        Called {
+            words: "run prog other",
+            program: ADDER,
+            other: "procs 2\nstep 0 400000\nstep 1 100001\n",
+            status: 4,
+            units: 0,
+            written: "dsm: schedule refused: too many units, 500001\n",
+        },
+    ];
+    are_right(&rt, rt.alloc(), TABLE)
+}
+
+/// So many times a text, between two others.
+fn repeated(
+    alloc: Global,
+    before: &str,
+    text: &str,
+    times: usize,
+    behind: &str,
+) -> Result<String, AllocError> {
+    let mut out = String::from_str(alloc, before)?;
+    for _ in 0..times {
+        out.push_str(text)?;
+    }
+    out.push_str(behind)?;
+    Ok(out)
+}
+
+/// The status of a run of this program by this schedule.
+fn status_of(alloc: Global, program: &str, schedule: &str) -> Result<u8, Fail> {
+    let mut files = files(alloc, program.as_bytes(), schedule.as_bytes())?;
+    let mut sink = MemSink::new(alloc, 4096);
+    Ok(call(alloc, "run prog other", &mut files, &mut sink)?.status.number())
+}
+
+/// What stands before a body that uses `x`.
+const HEAD: &str = "shared int x;\nlock_t L;\nbind(L, x, 0, 1);\nint main(int me, int n) {\n";
+
+#[test]
+fn programs_of_another_form_are_refused(rt: HostRuntime) -> Result<(), Fail> {
+    const TABLE: &[(&str, usize, u8)] = &[
+        ("x = 1;", 1, 1),
+        ("while (1) x = 1;", 1, 3),
+        ("acquire(x);", 1, 3),
+        ("x = 9223372036854775808;", 1, 3),
+        ("print(1, 2, 3, 4, 5, 6, 7, 8, 9);", 1, 3),
+        // 65,512 and 65,540 tokens.
+        ("x=1;", 16370, 1),
+        ("x=1;", 16377, 3),
+        // More than 262,144 bytes.
+        ("x=1;    ", 32768, 3),
+    ];
+    for &(text, times, wanted) in TABLE {
+        let program = repeated(rt.alloc(), HEAD, text, times, "}\n")?;
+        let found = status_of(rt.alloc(), program.as_str(), "procs 2\nstep 0\nstep 1\n")?;
+        assert_eq!(rt; found, wanted, "{text}");
+    }
+    Ok(())
+}
+
+#[test]
+fn schedules_have_a_most_of_bytes(rt: HostRuntime) -> Result<(), Fail> {
+    const TABLE: &[(usize, u8)] = &[(4_194_296, 2), (4_194_297, 4)];
+    for &(blanks, wanted) in TABLE {
+        let schedule = repeated(rt.alloc(), "procs 2\n", " ", blanks, "")?;
+        let found = status_of(rt.alloc(), NOTHING, schedule.as_str())?;
+        assert_eq!(rt; found, wanted);
+    }
+    Ok(())
+}
