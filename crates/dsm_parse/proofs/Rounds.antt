@@ -6,17 +6,18 @@ use Rattle.dsm_syntax.specs.Tree.{Statement}
 use Rattle.dsm_syntax.specs.Tree as t
 use Rattle.dsm_syntax.specs.Views.{view_statement, view_statements}
 use Rattle.dsm_syntax.proofs.Shown.{view_block}
-use Rattle.dsm_parse.specs.declared.kind.StatementKind.{StatementKind}
-use Rattle.dsm_cursor.specs.Lexemes.{Lexeme}
-use Rattle.dsm_parse.specs.Grammar.{spell_statement, FitsStatement}
-use Rattle.dsm_parse.specs.Heights.{height_statement}
-use Rattle.dsm_cursor.specs.Reading.{Read, ok, unexpected, too_high, and_then, look, tail, is_sign, ended_by, gathered}
-use Rattle.dsm_parse.specs.Statements.{kind, goes_on, in_order, statements, statement_by, statement}
-use Rattle.dsm_parse.proofs.Good.{shorter}
-use Rattle.dsm_parse.proofs.Repeats.{all_of, gathers, gathered_all}
-use Rattle.dsm_parse.proofs.Firsts.{NoElse, High, Refused, at_zero, statement_long}
-use Rattle.dsm_parse.proofs.Blocks.{goes_on_look}
-use Rattle.dsm_parse.proofs.Statements.{statement_good}
+use Rattle.dsm_syntax.specs.declared.kind.StatementKind.{StatementKind}
+use Rattle.dsm_syntax.specs.Lexemes.{Lexeme}
+use Rattle.dsm_laws_grammar.specs.Grammar.{spell_statement, FitsStatement}
+use Rattle.dsm_syntax.specs.Heights.{height_statement}
+use Rattle.dsm_syntax.specs.Reading.{Read, ok, unexpected, too_high, and_then, look, tail, is_sign, ended_by, gathered}
+use Rattle.dsm_syntax.specs.Kinds.{kind}
+use Rattle.dsm_laws_grammar.specs.Statements.{goes_on, in_order, statements, statement_by, statement}
+use Rattle.dsm_laws_grammar.proofs.Good.{shorter}
+use Rattle.dsm_laws_grammar.proofs.Repeats.{all_of, gathers, gathered_all}
+use Rattle.dsm_laws_grammar.proofs.Firsts.{NoElse, High, Refused, at_zero, statement_long}
+use Rattle.dsm_laws_grammar.proofs.Blocks.{goes_on_look}
+use Rattle.dsm_laws_grammar.proofs.Statements.{statement_good}
 
 -- with no level none is read
 none_read : (ts : List Lexeme) (s : Statement) (rest : List Lexeme) → statement 0 ts ≡ ok s rest → ⊥

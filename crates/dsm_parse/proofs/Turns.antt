@@ -4,16 +4,16 @@ use Rattle.std.proofs.lemmas.Bool.{le-ltb}
 use Rattle.dsm_syntax.specs.declared.tree.Expr.{Expr}
 use Rattle.dsm_syntax.specs.Tree.{Expression, cons}
 use Rattle.dsm_syntax.specs.Views.{view, views}
-use Rattle.dsm_parse.specs.declared.operator.Infix.{Infix}
-use Rattle.dsm_cursor.specs.declared.refusal.Refusal.{Refusal}
-use Rattle.dsm_cursor.specs.Lexemes.{Lexeme}
-use Rattle.dsm_parse.specs.Heights.{height, height_arguments}
-use Rattle.dsm_cursor.specs.Reading.{ok, too_high, and_then, look, tail}
-use Rattle.dsm_parse.specs.Signs.{infix_of, infix_tightness, tightness_of}
-use Rattle.dsm_parse.specs.Expressions.{expressions, place_at, operation, climb, at_least, below}
-use Rattle.dsm_cursor.specs.Gives.{Gives}
-use Rattle.dsm_parse.proofs.Repeats.{gives_none}
-use Rattle.dsm_parse.proofs.Expressions.{climb_stops, climb_turns}
+use Rattle.dsm_syntax.specs.declared.operator.Infix.{Infix}
+use Rattle.dsm_syntax.specs.declared.refusal.Refusal.{Refusal}
+use Rattle.dsm_syntax.specs.Lexemes.{Lexeme}
+use Rattle.dsm_syntax.specs.Heights.{height, height_arguments}
+use Rattle.dsm_syntax.specs.Reading.{ok, too_high, and_then, look, tail}
+use Rattle.dsm_syntax.specs.Roles.{infix_of, infix_tightness, tightness_of}
+use Rattle.dsm_laws_grammar.specs.Expressions.{expressions, place_at, operation, climb, at_least, below}
+use Rattle.dsm_syntax.specs.Gives.{Gives}
+use Rattle.dsm_laws_grammar.proofs.Repeats.{gives_none}
+use Rattle.dsm_laws_grammar.proofs.Expressions.{climb_stops, climb_turns}
 
 -- where there is a level
 pub level_below : (most depth least : ℕ) (ts : List Lexeme) → depth + 1 ≡ most → (below most).at_least least ts ≡ at_least depth (below depth) least ts

@@ -3,16 +3,14 @@
 ghost use Rattle.std.specs.Prelude.{◌≡◌, ◌+◌, ◌≤◌, ◌<◌, ◌^◌, if◌then◌else◌, map, IfOk, OnOk, OnErr};
 ghost use Rattle.dsm_syntax.specs.Tree as tree;
 ghost use Rattle.dsm_syntax.specs.Views.{view, view_place};
-ghost use Rattle.dsm_parse.specs.Heights.{height, height_place, height_arguments};
-ghost use Rattle.dsm_cursor.specs.Reading.{tail, list_of};
-ghost use Rattle.dsm_cursor.specs.Gives.{Gives};
-ghost use Rattle.dsm_parse.specs.Expressions as reader;
-ghost use Rattle.dsm_parse.specs.Expressions.{below, expressions};
+ghost use Rattle.dsm_syntax.specs.Heights.{height, height_place, height_arguments};
+ghost use Rattle.dsm_syntax.specs.Reading.{tail, list_of};
+ghost use Rattle.dsm_syntax.specs.Gives.{Gives};
+ghost use Rattle.dsm_laws_grammar.specs.Expressions as reader;
+ghost use Rattle.dsm_laws_grammar.specs.Expressions.{below, expressions};
 
 use crate::measured::Measured;
-use crate::operator::{Infix, Lead, level, next_step};
-use dsm_cursor::{Cursor, Refusal};
-use dsm_syntax::{Expr, Name, Place, Sign};
+use dsm_syntax::{Cursor, Expr, Infix, Lead, Name, Place, Refusal, Sign, level, next_step};
 use std::alloc::Global;
 
 /// What may stand where any expression may.

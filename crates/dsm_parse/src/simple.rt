@@ -2,16 +2,15 @@
 
 ghost use Rattle.std.specs.Prelude.{◌<◌, ◌^◌};
 ghost use Rattle.dsm_syntax.specs.Views.{view_place, view_statement};
-ghost use Rattle.dsm_cursor.specs.Gives.{Gives};
-ghost use Rattle.dsm_cursor.specs.Reading.{ok};
-ghost use Rattle.dsm_parse.specs.Statements as reader;
+ghost use Rattle.dsm_syntax.specs.Gives.{Gives};
+ghost use Rattle.dsm_syntax.specs.Reading.{ok};
+ghost use Rattle.dsm_laws_grammar.specs.Statements as reader;
 
 use crate::expression::{expression, place};
 use crate::head::unless_sign;
 use crate::print::parts;
 use crate::variable::variables;
-use dsm_cursor::{Cursor, Refusal};
-use dsm_syntax::{Name, Place, Sign, Stmt};
+use dsm_syntax::{Cursor, Name, Place, Refusal, Sign, Stmt};
 use std::alloc::Global;
 
 /// Passes over the first word of a statement that has something below it.

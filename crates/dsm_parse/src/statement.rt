@@ -2,15 +2,13 @@
 
 ghost use Rattle.std.specs.Prelude.{◌≡◌, ◌<◌, ◌^◌};
 ghost use Rattle.dsm_syntax.specs.Views.{view_statement, view_statements};
-ghost use Rattle.dsm_cursor.specs.Gives.{Gives};
-ghost use Rattle.dsm_cursor.specs.Reading.{ended_by, tail};
-ghost use Rattle.dsm_parse.specs.Statements as reader;
+ghost use Rattle.dsm_syntax.specs.Gives.{Gives};
+ghost use Rattle.dsm_syntax.specs.Reading.{ended_by, tail};
+ghost use Rattle.dsm_laws_grammar.specs.Statements as reader;
 
 use crate::head::{for_head, test};
-use crate::kind::StatementKind;
 use crate::simple::{barrier, declaration, deeper, expression_statement, lock, print, return_at};
-use dsm_cursor::{Cursor, Refusal};
-use dsm_syntax::{Sign, Stmt, Word};
+use dsm_syntax::{Cursor, Refusal, Sign, StatementKind, Stmt, Word};
 use std::alloc::Global;
 
 /// Whether a token comes next that doesn't close the block.

@@ -1,7 +1,8 @@
 //! The syntax tree, with a variant for each alternative of the grammar. Each `line` is a line of the text, counted
 //! from 1.
 
-ghost use Rattle.std.specs.Prelude.{IsTrue};
+ghost use Rattle.std.specs.Prelude.{IsTrue, ◌≤◌};
+ghost use Rattle.dsm_syntax.specs.Heights.{height_program};
 ghost use Rattle.dsm_syntax.specs.Sound.{is_sound_program};
 ghost use Rattle.dsm_syntax.specs.Views.{view_items};
 
@@ -260,23 +261,26 @@ pub enum Item {
     Function(Function),
 }
 
-/// The tree of a program; `view_tree` is the list of its items. No number is below 0, and no string holds a
-/// byte that it may not.
+/// The tree of a program; `view_tree` is the list of its items. No number is below 0, no string holds a
+/// byte that it may not, and no function is higher than 64 nodes.
 #[derive(Drop)]
 pub struct Tree {
     items: Vec<Item>,
     ghost sound: { IsTrue (is_sound_program (view_items items.items)) },
+    ghost low: { height_program (view_items items.items) ≤ 64 },
 }
 
 impl Tree {
-    ghost use Rattle.std.specs.Prelude.{◌≡◌, IsTrue};
+    ghost use Rattle.std.specs.Prelude.{◌≡◌, ◌≤◌, IsTrue};
+    ghost use Rattle.dsm_syntax.specs.Heights.{height_program};
     ghost use Rattle.dsm_syntax.specs.Sound.{is_sound_program};
     ghost use Rattle.dsm_syntax.specs.Views.{view_items};
     ghost use Rattle.dsm_syntax.specs.Programs.{view_tree};
 
     /// The tree of these items.
     pub fn new(items: Vec<Item>) -> Tree
-        requires { IsTrue (is_sound_program (view_items items.items)) }
+        requires sound { IsTrue (is_sound_program (view_items items.items)) }
+        requires low { height_program (view_items items.items) ≤ 64 }
         ensures { view_tree result ≡ view_items items.items }
     {
         Tree { items }
@@ -286,6 +290,7 @@ impl Tree {
     pub fn items(&self) -> &[Item]
         ensures value { view_items result.now ≡ view_tree self.now }
         ensures sound { IsTrue (is_sound_program (view_tree self.now)) }
+        ensures low { height_program (view_tree self.now) ≤ 64 }
     {
         self.items.as_slice()
     }

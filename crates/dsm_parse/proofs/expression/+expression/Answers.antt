@@ -5,13 +5,13 @@ use Rattle.dsm_syntax.specs.declared.sign.Sign.{Sign}
 use Rattle.dsm_syntax.specs.declared.tree.Expr.{Expr}
 use Rattle.dsm_parse.specs.declared.measured.Measured.{Measured}
 use Rattle.dsm_syntax.specs.Views.{view, view_place}
-use Rattle.dsm_cursor.specs.Gives.{Gives}
-use Rattle.dsm_parse.specs.Heights.{height, height_arguments}
-use Rattle.dsm_cursor.specs.Reading.{and_then, look, tail, is_sign, gathered, more_of}
-use Rattle.dsm_parse.specs.Signs.{infix_of, infix_tightness}
-use Rattle.dsm_parse.specs.Expressions.{below, climb, operation, place_behind, expression, expressions}
-use Rattle.dsm_parse.proofs.Lists.{more_gathers, more_falls}
-use Rattle.dsm_parse.proofs.Expressions.{expression_good}
+use Rattle.dsm_syntax.specs.Gives.{Gives}
+use Rattle.dsm_syntax.specs.Heights.{height, height_arguments}
+use Rattle.dsm_syntax.specs.Reading.{and_then, look, tail, is_sign, gathered, more_of}
+use Rattle.dsm_syntax.specs.Roles.{infix_of, infix_tightness}
+use Rattle.dsm_laws_grammar.specs.Expressions.{below, climb, operation, place_behind, expression, expressions}
+use Rattle.dsm_laws_grammar.proofs.Lists.{more_gathers, more_falls}
+use Rattle.dsm_laws_grammar.proofs.Expressions.{expression_good}
 use Rattle.dsm_parse.proofs.Turns.{level_below, place_below, turns_on, turns_none, binds_too_little, binds_nothing, none_of, height_append}
 use Rattle.dsm_parse.proofs.expression.+expression.Goals as goal
 use Rattle.dsm_parse.proofs.expression.+expression.Goals.{climb-in-Some+then-tightness-least, climb-in_default}
