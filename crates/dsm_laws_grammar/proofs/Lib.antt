@@ -26,3 +26,4 @@ pub mod Exact
 pub mod Soundness
 pub mod Whole
 pub mod Outcomes
+pub mod TextPrograms

@@ -17,6 +17,7 @@ pub record Lower : Type 0 where
   pub at_least : ℕ → Reader Expression
   pub place : Reader Place
 
+-- a list of arguments as a tree has it
 abbrev pub expressions : List Expression → Expressions
 expressions [] = nil
 expressions (e ∷ rest) = cons e (expressions rest)

@@ -22,6 +22,7 @@ abbrev pub spell_more : {A : Type 0} → (A → List Lexeme) → List A → List
 spell_more spell [] = []
 spell_more spell (a ∷ rest) = sign Sign.Comma ∷ (spell a ++ spell_more spell rest)
 
+-- a list parted by commas
 abbrev pub spell_list : {A : Type 0} → (A → List Lexeme) → List A → List Lexeme
 spell_list spell [] = []
 spell_list spell (a ∷ rest) = spell a ++ spell_more spell rest
@@ -56,19 +57,24 @@ abbrev mutual
   spell_more_arguments nil = []
   spell_more_arguments (cons e rest) = sign Sign.Comma ∷ (spell e ++ spell_more_arguments rest)
 
+-- what a variable begins with, behind its `=`
 abbrev pub spell_initial : Initial → List Lexeme
 spell_initial initial = sign_at Sign.Assign initial.line ∷ spell initial.value
 
+-- a name, and what it begins with
 abbrev pub spell_variable : Variable → List Lexeme
 spell_variable variable = named variable.name ∷ spell_option spell_initial variable.initial
 
+-- the word `int`, and variables parted by commas
 abbrev pub spell_variables : List Variable → List Lexeme
 spell_variables all = word Word.Int ∷ spell_list spell_variable all
 
+-- a part of a print
 abbrev pub spell_part : Part → List Lexeme
 spell_part (part_text held) = quoted held ∷ []
 spell_part (part_value e) = spell e
 
+-- what stands first in the head of a `for`
 abbrev pub spell_start : ForStart → List Lexeme
 spell_start start_nothing = []
 spell_start (start_variables all) = spell_variables all
@@ -112,6 +118,7 @@ abbrev mutual
   spell_statements none = []
   spell_statements (then statement rest) = spell_statement statement ++ spell_statements rest
 
+-- the body of a function
 abbrev pub spell_body : Statements → List Lexeme
 spell_body body = sign Sign.BraceOpen ∷ (spell_statements body ++ sign Sign.BraceClose ∷ [])
 
@@ -120,24 +127,30 @@ abbrev pub spell_size : Option ℤ → List Lexeme
 spell_size None = []
 spell_size (Some size) = sign Sign.BracketOpen ∷ numeral size ∷ sign Sign.BracketClose ∷ []
 
+-- a name, and its size where it is an array
 abbrev pub spell_declarator : Declarator → List Lexeme
 spell_declarator declarator = named declarator.name ∷ spell_size declarator.size
 
+-- a name alone
 abbrev pub spell_name : Name → List Lexeme
 spell_name name = named name ∷ []
 
+-- a parameter, behind its word `int`
 abbrev pub spell_param : Name → List Lexeme
 spell_param name = word Word.Int ∷ named name ∷ []
 
+-- what stands between the parentheses of a function
 abbrev pub spell_params : Params → List Lexeme
 spell_params no_params = []
 spell_params void_params = word Word.Void ∷ []
 spell_params (named_params names) = spell_list spell_param names
 
+-- the word before the name of a function
 abbrev pub spell_returns : Returns → Lexeme
 spell_returns Returns.Int = word Word.Int
 spell_returns Returns.Void = word Word.Void
 
+-- the words before data
 abbrev pub spell_sharing : Sharing → List Lexeme
 spell_sharing Sharing.Shared = word Word.Shared ∷ []
 spell_sharing Sharing.Private = []
@@ -151,21 +164,25 @@ spell_numbers (n ∷ rest) = sign Sign.Comma ∷ numeral n ∷ spell_numbers res
 abbrev pub end_of_binding : List Lexeme
 end_of_binding = sign Sign.ParenClose ∷ sign Sign.Semicolon ∷ []
 
+-- `bind`
 abbrev pub spell_bind : Bind → List Lexeme
 spell_bind b =
     word_at Word.Bind b.line ∷ sign Sign.ParenOpen ∷ named b.lock ∷ (spell_size b.index
     ++ sign Sign.Comma ∷ named b.data ∷ (spell_numbers (b.first ∷ b.count ∷ []) ++ end_of_binding))
 
+-- `bindeach`
 abbrev pub spell_bind_each : BindEach → List Lexeme
 spell_bind_each b =
     word_at Word.BindEach b.line ∷ sign Sign.ParenOpen ∷ named b.locks
     ∷ sign Sign.Comma ∷ named b.data ∷ (spell_numbers (b.count ∷ []) ++ end_of_binding)
 
+-- `bindb`
 abbrev pub spell_bind_barrier : BindBarrier → List Lexeme
 spell_bind_barrier b =
     word_at Word.BindBarrier b.line ∷ sign Sign.ParenOpen ∷ named b.barrier
     ∷ sign Sign.Comma ∷ named b.data ∷ (spell_numbers (b.first ∷ b.count ∷ b.owner ∷ b.phase ∷ b.period ∷ []) ++ end_of_binding)
 
+-- an item
 abbrev pub spell_item : Item → List Lexeme
 spell_item (cells sharing all) = spell_sharing sharing ++ word Word.Int ∷ (spell_list spell_declarator all ++ sign Sign.Semicolon ∷ [])
 spell_item (locks all) = word Word.LockType ∷ (spell_list spell_declarator all ++ sign Sign.Semicolon ∷ [])
@@ -177,6 +194,7 @@ spell_item (function f) =
     spell_returns f.returns ∷ named f.name ∷ sign Sign.ParenOpen ∷ (spell_params f.params
     ++ sign Sign.ParenClose ∷ spell_body f.body)
 
+-- a program: its items one after the other
 abbrev pub spell_program : List Item → List Lexeme
 spell_program items = flat_map spell_item items
 
@@ -222,13 +240,16 @@ abbrev pub Listed : {A : Type 0} → (A → Type 0) → List A → Type 0
 Listed IsOne [] = ⊥
 Listed IsOne (a ∷ rest) = IsOne a × AllByRecursion IsOne rest
 
+-- of a variable: of what it begins with
 abbrev pub FitsVariable : Variable → Type 0
 FitsVariable variable = IfSome variable.initial (λ initial. Fits initial.value)
 
+-- of a part of a print
 abbrev pub FitsPart : Part → Type 0
 FitsPart (part_text held) = ⊤
 FitsPart (part_value e) = Fits e
 
+-- of what stands first in the head of a `for`
 abbrev pub FitsStart : ForStart → Type 0
 FitsStart start_nothing = ⊤
 FitsStart (start_variables all) = Listed FitsVariable all
@@ -271,11 +292,13 @@ abbrev pub HasSome : {A : Type 0} → List A → Type 0
 HasSome [] = ⊥
 HasSome (a ∷ rest) = ⊤
 
+-- of parameters: names are some
 abbrev pub FitsParams : Params → Type 0
 FitsParams no_params = ⊤
 FitsParams void_params = ⊤
 FitsParams (named_params names) = HasSome names
 
+-- of an item
 abbrev pub FitsItem : Item → Type 0
 FitsItem (cells sharing all) = HasSome all
 FitsItem (locks all) = HasSome all

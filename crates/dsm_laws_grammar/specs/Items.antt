@@ -24,12 +24,15 @@ size tokens =
 abbrev pub declarator_of : Name → Reader Declarator
 declarator_of name tokens = and_then (size tokens) (λ size. ok (record { name = name; size = size }))
 
+-- a name, and its size where a bracket follows
 abbrev pub declarator : Reader Declarator
 declarator tokens = and_then (read_name tokens) declarator_of
 
+-- locks, behind their word
 abbrev pub locks : Reader Item
 locks tokens = and_then (list_of declarator tokens) (λ all. ended_by Sign.Semicolon (t.locks all))
 
+-- barriers, behind their word
 abbrev pub barriers : Reader Item
 barriers tokens = and_then (list_of read_name tokens) (λ names. ended_by Sign.Semicolon (t.barriers names))
 
@@ -46,9 +49,11 @@ private_data name tokens =
     and_then (declarator_of name tokens) (λ first rest.
     and_then (more_of declarator rest) (λ others. ended_by Sign.Semicolon (t.cells Sharing.Private (first ∷ others))))
 
+-- the word `int` and a name
 abbrev pub param : Reader Name
 param tokens = if is_word Word.Int tokens then read_name (tail tokens) else unexpected tokens
 
+-- what stands between the parentheses of a function
 abbrev pub params : Reader Params
 params tokens =
     if is_word Word.Void tokens then ok t.void_params (tail tokens)
@@ -67,6 +72,7 @@ int_item d tokens =
     and_then (read_name tokens) (λ name rest.
     if is_sign Sign.ParenOpen rest then function_of d Returns.Int name rest else private_data name rest)
 
+-- a function, behind the word `void`
 abbrev pub void_item : ℕ → Reader Item
 void_item d tokens = and_then (read_name tokens) (function_of d Returns.Void)
 
@@ -74,9 +80,11 @@ void_item d tokens = and_then (read_name tokens) (function_of d Returns.Void)
 abbrev pub next_name : Reader Name
 next_name = after_sign Sign.Comma read_name
 
+-- a comma and a number
 abbrev pub next_number : Reader ℤ
 next_number = after_sign Sign.Comma read_number
 
+-- what ends a binding
 abbrev pub end_of_binding : Item → Reader Item
 end_of_binding item = after_sign Sign.ParenClose (ended_by Sign.Semicolon item)
 
@@ -87,11 +95,13 @@ bind line = after_sign Sign.ParenOpen (λ rest.
     and_then (next_number rest) (λ first rest. and_then (next_number rest) (λ count.
     end_of_binding (t.bind (record { line = line; lock = lock; index = index; «data» = cells; first = first; count = count }))))))))
 
+-- what is behind `bindeach`
 abbrev pub bind_each : ℕ → Reader Item
 bind_each line = after_sign Sign.ParenOpen (λ rest.
     and_then (read_name rest) (λ locks rest. and_then (next_name rest) (λ cells rest. and_then (next_number rest) (λ count.
     end_of_binding (t.bind_each (record { line = line; locks = locks; «data» = cells; count = count }))))))
 
+-- what is behind `bindb`
 abbrev pub bind_barrier : ℕ → Reader Item
 bind_barrier line = after_sign Sign.ParenOpen (λ rest.
     and_then (read_name rest) (λ barrier rest. and_then (next_name rest) (λ cells rest.
@@ -108,12 +118,14 @@ bind_barrier line = after_sign Sign.ParenOpen (λ rest.
       period = period;
     }))))))))))
 
+-- a binding, by its word
 abbrev pub binding : Word → ℕ → Reader Item
 binding Word.Bind line tokens = bind line (tail tokens)
 binding Word.BindEach line tokens = bind_each line (tail tokens)
 binding Word.BindBarrier line tokens = bind_barrier line (tail tokens)
 binding _ line tokens = unexpected tokens
 
+-- what a word declares
 abbrev pub declaration : ℕ → Word → Reader Item
 declaration d Word.Shared tokens = shared_data (tail tokens)
 declaration d Word.Int tokens = int_item d (tail tokens)
@@ -132,6 +144,7 @@ item_by d None None tokens = unexpected tokens
 abbrev pub item : ℕ → Reader Item
 item d tokens = item_by d (placed_word (look tokens)) (plain_word (look tokens)) tokens
 
+-- whether a token is left
 abbrev pub goes_on : List Lexeme → Bool
 goes_on [] = false
 goes_on (token ∷ rest) = true

@@ -4,3 +4,4 @@ pub mod Refusals
 pub mod Expressions
 pub mod Statements
 pub mod Items
+pub mod TextPrograms

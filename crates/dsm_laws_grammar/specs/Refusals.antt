@@ -43,10 +43,11 @@ line_from line [] place = line
 line_from line (token ∷ tokens) zero = token.line
 line_from line (token ∷ tokens) (suc place) = line_from token.line tokens place
 
+-- the same, from the first line
 abbrev pub line_at : List Token → ℕ → ℕ
 line_at tokens place = line_from 1 tokens place
 
--- why tokens are refused; want of memory is free
+-- why tokens are refused; out of memory is free
 abbrev pub IsRefused : List Token → ProgErr → Type 0
 IsRefused tokens (err.Unexpected line) = (place : ℕ) × (place ≤ length tokens) × IsUnexpected (lexemes tokens) place × (line ≡ line_at tokens place)
 IsRefused tokens (err.Limit limit count) = (place : ℕ) × IsTooHigh (lexemes tokens) place × (limit ≡ which.Nesting) × (count ≡ 65)

@@ -4,4 +4,4 @@
 
 mod laws;
 
-pub use laws::{one_tree, refused_for_good, tree_or_refusal};
+pub use laws::{one_tree, program_or_refusal, refused_for_good, tree_or_refusal};

@@ -10,15 +10,15 @@ ghost use Rattle.dsm_parse.specs.Heads.{view_head};
 
 use crate::expression::expression;
 use crate::variable::variables;
-use dsm_syntax::{Cursor, Expr, ForStart, Refusal, Sign, Word};
+use dsm_syntax::{Cursor, Expression, ForStart, Refusal, Sign, Word};
 use std::alloc::Global;
 
 /// What stands in the parentheses of a `for`.
 #[derive(Drop)]
 pub struct ForHead {
     pub start: ForStart,
-    pub test: Option<Expr>,
-    pub step: Option<Expr>,
+    pub test: Option<Expression>,
+    pub step: Option<Expression>,
 }
 
 /// Reads an expression, or none where this sign comes next.
@@ -27,7 +27,7 @@ pub fn unless_sign(
     cursor: &mut Cursor<'_>,
     most: u32,
     sign: Sign,
-) -> Result<Option<Expr>, Refusal>
+) -> Result<Option<Expression>, Refusal>
     requires depth { most < 2 ^ 28 }
     requires plain { is_placed_sign sign ≡ false }
     ensures { Gives (option_view view) (reader.unless_sign sign (expression most) cursor.old) result cursor.new }
@@ -39,7 +39,7 @@ pub fn unless_sign(
 }
 
 /// Reads a condition in parentheses.
-pub fn test(alloc: Global, cursor: &mut Cursor<'_>, most: u32) -> Result<Expr, Refusal>
+pub fn test(alloc: Global, cursor: &mut Cursor<'_>, most: u32) -> Result<Expression, Refusal>
     requires { most < 2 ^ 28 }
     ensures { Gives view (reader.test most cursor.old) result cursor.new }
 {

@@ -8,6 +8,7 @@ abbrev pub highest : {A : Type 0} → (A → ℕ) → List A → ℕ
 highest height [] = 0
 highest height (a ∷ rest) = max (height a) (highest height rest)
 
+-- of what may be absent: 0 where it is
 abbrev pub height_option : {A : Type 0} → (A → ℕ) → Option A → ℕ
 height_option height None = 0
 height_option height (Some a) = height a
@@ -37,10 +38,12 @@ abbrev mutual
 abbrev pub height_variable : Variable → ℕ
 height_variable variable = max 1 (height_option (λ initial. height initial.value) variable.initial)
 
+-- of a part of a print: a string is no node
 abbrev pub height_part : Part → ℕ
 height_part (part_text held) = 0
 height_part (part_value e) = height e
 
+-- of what stands first in the head of a `for`
 abbrev pub height_start : ForStart → ℕ
 height_start start_nothing = 0
 height_start (start_variables all) = highest height_variable all
@@ -75,5 +78,6 @@ abbrev pub height_item : Item → ℕ
 height_item (function f) = height_statements f.body + 1
 height_item _ = 0
 
+-- the highest function's
 abbrev pub height_program : List Item → ℕ
 height_program items = highest height_item items

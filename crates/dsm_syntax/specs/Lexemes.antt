@@ -6,6 +6,7 @@ use Rattle.dsm_syntax.specs.declared.token.Token.{Token}
 use Rattle.dsm_syntax.specs.declared.token.TokenKind.{TokenKind}
 use Rattle.dsm_syntax.specs.declared.tree.Name.{Name}
 
+-- a token as a tree keeps it
 pub data Lexeme : Type 0 where
   named : Name → Lexeme
   numeral : ℤ → Lexeme
@@ -40,6 +41,7 @@ is_placed_sign Sign.Comma = false
 is_placed_sign Sign.Colon = false
 is_placed_sign _ = true
 
+-- what a tree keeps of a token of this kind in this line
 abbrev pub lexeme_at : TokenKind → ℕ → Lexeme
 lexeme_at (TokenKind.Name text) line = named (record { text = text; line = line })
 lexeme_at (TokenKind.Number value) line = numeral value
@@ -47,8 +49,10 @@ lexeme_at (TokenKind.Str held) line = quoted held
 lexeme_at (TokenKind.Word w) line = if is_placed_word w then word_at w line else word w
 lexeme_at (TokenKind.Sign s) line = if is_placed_sign s then sign_at s line else sign s
 
+-- what it keeps of a token
 abbrev pub lexeme_of : Token → Lexeme
 lexeme_of token = lexeme_at token.kind token.line
 
+-- what it keeps of tokens, in order
 abbrev pub lexemes : List Token → List Lexeme
 lexemes tokens = map lexeme_of tokens

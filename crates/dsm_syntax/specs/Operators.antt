@@ -6,16 +6,19 @@ use Rattle.dsm_syntax.specs.declared.tree.StepOp.{StepOp}
 use Rattle.dsm_syntax.specs.declared.tree.BinaryOp.{BinaryOp}
 use Rattle.dsm_syntax.specs.declared.tree.AssignOp.{AssignOp}
 
+-- the sign of an operator before its operand
 abbrev pub unary_sign : UnaryOp → Sign
 unary_sign UnaryOp.Negate = Sign.Minus
 unary_sign UnaryOp.Plus = Sign.Plus
 unary_sign UnaryOp.Not = Sign.Not
 unary_sign UnaryOp.Complement = Sign.Tilde
 
+-- the sign of a step
 abbrev pub step_sign : StepOp → Sign
 step_sign StepOp.Increment = Sign.PlusPlus
 step_sign StepOp.Decrement = Sign.MinusMinus
 
+-- the sign of an operator between its operands
 abbrev pub binary_sign : BinaryOp → Sign
 binary_sign BinaryOp.Times = Sign.Star
 binary_sign BinaryOp.Divide = Sign.Slash
@@ -36,6 +39,7 @@ binary_sign BinaryOp.BitOr = Sign.Or
 binary_sign BinaryOp.And = Sign.AndAnd
 binary_sign BinaryOp.Or = Sign.OrOr
 
+-- the sign of an assignment
 abbrev pub assign_sign : AssignOp → Sign
 assign_sign AssignOp.Set = Sign.Assign
 assign_sign AssignOp.Plus = Sign.PlusAssign

@@ -14,6 +14,7 @@ pub data Read (A : Type 0) : Type 0 where
   unexpected : List Lexeme → Read A
   too_high : List Lexeme → Read A
 
+-- what reads a value from tokens
 abbrev pub Reader : Type 0 → Type 0
 Reader A = List Lexeme → Read A
 

@@ -11,6 +11,7 @@ use Rattle.dsm_syntax.specs.declared.operator.Lead.{Lead}
 use Rattle.dsm_syntax.specs.Lexemes.{Lexeme, named, numeral, sign, sign_at}
 use Rattle.dsm_syntax.specs.Operators.{binary_level}
 
+-- the step that a sign is
 abbrev pub step_op : Sign → Option StepOp
 step_op Sign.PlusPlus = Some StepOp.Increment
 step_op Sign.MinusMinus = Some StepOp.Decrement
@@ -34,6 +35,7 @@ lead (Some (sign Sign.ParenOpen)) = Lead.Paren
 lead (Some (sign_at s line)) = lead_sign s line
 lead _ = Lead.Nothing
 
+-- whether anything begins
 abbrev pub is_lead : Lead → Bool
 is_lead Lead.Nothing = false
 is_lead _ = true
@@ -81,10 +83,12 @@ abbrev pub placed : {A : Type 0} → ℕ → Option A → Option (A × ℕ)
 placed line None = None
 placed line (Some a) = Some (a, line)
 
+-- the step that a token is, with its line
 abbrev pub step_of : Option Lexeme → Option (StepOp × ℕ)
 step_of (Some (sign_at s line)) = placed line (step_op s)
 step_of _ = None
 
+-- what stands between operands that a token is, with its line
 abbrev pub infix_of : Option Lexeme → Option (Infix × ℕ)
 infix_of (Some (sign_at s line)) = placed line (infix_op s)
 infix_of _ = None
@@ -94,11 +98,13 @@ abbrev pub assignment_tightness : Expression → ℕ
 assignment_tightness (at place) = 1
 assignment_tightness _ = 0
 
+-- how tightly it binds the expression before it: one more than its level, or 0 where it can't stand there
 abbrev pub infix_tightness : Expression → Infix → ℕ
 infix_tightness left (Infix.Binary op) = binary_level op + 1
 infix_tightness left Infix.Question = 2
 infix_tightness left (Infix.Assign op) = assignment_tightness left
 
+-- the same, and 0 of nothing
 abbrev pub tightness_of : Expression → Option (Infix × ℕ) → ℕ
 tightness_of left None = 0
 tightness_of left (Some (found, line)) = infix_tightness left found

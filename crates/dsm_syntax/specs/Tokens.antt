@@ -21,14 +21,17 @@ abbrev pub read_string : Reader (List ℕ)
 read_string (quoted held ∷ rest) = ok held rest
 read_string tokens = unexpected tokens
 
+-- whether a name comes next
 abbrev pub is_name : Option Lexeme → Bool
 is_name (Some (named name)) = true
 is_name _ = false
 
+-- the number that comes next
 abbrev pub next_number : Option Lexeme → Option ℤ
 next_number (Some (numeral value)) = Some value
 next_number _ = None
 
+-- whether a string comes next
 abbrev pub is_string : Option Lexeme → Bool
 is_string (Some (quoted held)) = true
 is_string _ = false

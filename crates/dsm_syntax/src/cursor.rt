@@ -61,12 +61,14 @@ impl<'a> Model for Cursor<'a> {
 }
 
 impl<'a> Cursor<'a> {
+    /// A cursor before the first of these tokens.
     pub fn new(tokens: &'a [Token]) -> Cursor<'a>
         ensures { result ≡ lexemes tokens.now }
     {
         Cursor { left: tokens }
     }
 
+    /// Whether no token is left.
     pub fn is_empty(&self) -> bool
         ensures { result ≡ nat_eq (length self.now) 0 }
     {
@@ -123,6 +125,7 @@ impl<'a> Cursor<'a> {
         }
     }
 
+    /// Whether a name comes next.
     pub fn is_name(&self) -> bool
         ensures { result ≡ is_name (look self.now) }
     {
@@ -138,6 +141,7 @@ impl<'a> Cursor<'a> {
         )
     }
 
+    /// Whether a string comes next.
     pub fn is_string(&self) -> bool
         ensures { result ≡ is_string (look self.now) }
     {
@@ -203,7 +207,8 @@ impl<'a> Cursor<'a> {
         }
     }
 
-    /// Passes over a sign that has to come next, one whose line no tree has. `Unexpected` comes where it doesn't.
+    /// Passes over a sign that has to come next, one whose line no tree has. `Unexpected` comes
+    /// where it doesn't.
     pub fn expect(&mut self, sign: Sign) -> Result<(), Refusal>
         requires { is_placed_sign sign ≡ false }
         ensures taken { OnOk result ((is_sign sign self.old ≡ true) × (self.new ≡ tail self.old)) }
@@ -217,7 +222,8 @@ impl<'a> Cursor<'a> {
         Ok(())
     }
 
-    /// Takes a name that has to come next. `Unexpected` comes where none does, `Memory` for want of memory.
+    /// Takes a name that has to come next. `Unexpected` comes where none does, `Memory` where
+    /// memory runs out.
     pub fn name(&mut self, alloc: Global) -> Result<Name, Refusal>
         ensures { Gives (λ name. name) (read_name self.old) result self.new }
     {
@@ -273,7 +279,8 @@ impl<'a> Cursor<'a> {
         Ok(*number)
     }
 
-    /// Takes a string that has to come next. `Unexpected` comes where none does, `Memory` for want of memory.
+    /// Takes a string that has to come next. `Unexpected` comes where none does, `Memory` where
+    /// memory runs out.
     pub fn string(&mut self, alloc: Global) -> Result<Text, Refusal>
         ensures { Gives (λ held. held) (read_string self.old) result self.new }
     {

@@ -7,7 +7,7 @@ ghost use Rattle.dsm_syntax.specs.Reading.{look};
 ghost use Rattle.dsm_syntax.specs.Roles.{step_op, lead_sign, lead, is_lead, infix_op, step_of, infix_of, infix_tightness};
 
 use crate::cursor::Cursor;
-use crate::{AssignOp, BinaryOp, Expr, Sign, StepOp, UnaryOp};
+use crate::{AssignOp, BinaryOp, Expression, Sign, StepOp, UnaryOp};
 
 /// What stands between operands.
 #[derive(Clone, Copy, Debug, PartialEq, Eq)]
@@ -157,14 +157,15 @@ impl Infix {
         Some((infix_op(sign)?, line))
     }
 
-    /// How tightly it binds an expression before it: one more than its level, or 0 where it can't stand there.
-    pub fn tightness(self, left: &Expr) -> u8
+    /// How tightly it binds an expression before it: one more than its level, or 0 where it can't
+    /// stand there.
+    pub fn tightness(self, left: &Expression) -> u8
         ensures { result ≡ infix_tightness (view left.now) self }
     {
         match self {
             Infix::Binary(op) => level(op) + 1,
             Infix::Question => 2,
-            Infix::Assign(_) => u8::from(matches!(left, Expr::Place(_))),
+            Infix::Assign(_) => u8::from(matches!(left, Expression::Place(_))),
         }
     }
 }

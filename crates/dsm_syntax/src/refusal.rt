@@ -10,7 +10,7 @@ pub enum Refusal {
     Unexpected,
     /// Only what is too high goes on with it.
     TooHigh,
-    /// Want of memory.
+    /// Out of memory.
     Memory,
 }
 
