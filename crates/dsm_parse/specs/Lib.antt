@@ -1,9 +1,1 @@
-pub mod Operators
-pub mod Grammar
-pub mod Heights
-pub mod Programs
-pub mod Refusals
-pub mod Signs
-pub mod Expressions
-pub mod Statements
-pub mod Items
+pub mod Heads

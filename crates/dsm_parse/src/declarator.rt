@@ -2,13 +2,12 @@
 
 ghost use Rattle.std.specs.Prelude.{[], ◌∷◌};
 ghost use Rattle.dsm_syntax.specs.Views.{view_item};
-ghost use Rattle.dsm_cursor.specs.Gives.{Gives};
-ghost use Rattle.dsm_cursor.specs.Reading.{gathered, more_of, list_of};
-ghost use Rattle.dsm_cursor.specs.Tokens.{read_name};
-ghost use Rattle.dsm_parse.specs.Items as r;
+ghost use Rattle.dsm_syntax.specs.Gives.{Gives};
+ghost use Rattle.dsm_syntax.specs.Reading.{gathered, more_of, list_of};
+ghost use Rattle.dsm_syntax.specs.Tokens.{read_name};
+ghost use Rattle.dsm_laws_grammar.specs.Items as r;
 
-use dsm_cursor::{Cursor, Refusal};
-use dsm_syntax::{Declarator, Item, Name, Sharing, Sign, Word};
+use dsm_syntax::{Cursor, Declarator, Item, Name, Refusal, Sharing, Sign, Word};
 use std::alloc::Global;
 
 /// A number in brackets, where a bracket comes next.

@@ -3,16 +3,14 @@
 ghost use Rattle.std.specs.Prelude.{◌≡◌, ◌+◌, ◌≤◌, ◌<◌, ◌^◌, if◌then◌else◌, map, IfOk, OnOk, OnErr};
 ghost use Rattle.dsm_syntax.specs.Tree as tree;
 ghost use Rattle.dsm_syntax.specs.Views.{view, view_place};
-ghost use Rattle.dsm_parse.specs.Heights.{height, height_place, height_arguments};
-ghost use Rattle.dsm_cursor.specs.Reading.{tail, list_of};
-ghost use Rattle.dsm_cursor.specs.Gives.{Gives};
-ghost use Rattle.dsm_parse.specs.Expressions as reader;
-ghost use Rattle.dsm_parse.specs.Expressions.{below, expressions};
+ghost use Rattle.dsm_syntax.specs.Heights.{height, height_place, height_arguments};
+ghost use Rattle.dsm_syntax.specs.Reading.{tail, list_of};
+ghost use Rattle.dsm_syntax.specs.Gives.{Gives};
+ghost use Rattle.dsm_laws_grammar.specs.Expressions as reader;
+ghost use Rattle.dsm_laws_grammar.specs.Expressions.{below, expressions};
 
 use crate::measured::Measured;
-use crate::operator::{Infix, Lead, level, next_step};
-use dsm_cursor::{Cursor, Refusal};
-use dsm_syntax::{Expr, Name, Place, Sign};
+use dsm_syntax::{Cursor, Expression, Infix, Lead, Name, Place, Refusal, Sign, level, next_step};
 use std::alloc::Global;
 
 /// What may stand where any expression may.
@@ -33,7 +31,7 @@ pub fn expression(
     alloc: Global,
     cursor: &mut Cursor<'_>,
     most: u32,
-) -> Result<Measured<Expr>, Refusal>
+) -> Result<Measured<Expression>, Refusal>
     ensures read { Gives (λ e. view e.tree) (reader.expression most cursor.old) result cursor.new }
     ensures height { IfOk result (λ e. e.height ≡ height (view e.tree)) }
     ensures low { IfOk result (λ e. e.height ≤ most) }
@@ -72,7 +70,7 @@ fn at_least(
     cursor: &mut Cursor<'_>,
     most: u32,
     least: u8,
-) -> Result<Measured<Expr>, Refusal>
+) -> Result<Measured<Expression>, Refusal>
     ensures read { Gives (λ e. view e.tree) ((below most).at_least least cursor.old) result cursor.new }
     ensures height { IfOk result (λ e. e.height ≡ height (view e.tree)) }
     ensures low { IfOk result (λ e. e.height ≤ most) }
@@ -131,7 +129,7 @@ fn stepped(
     cursor: &mut Cursor<'_>,
     depth: u32,
     place: Measured<Place>,
-) -> Result<Measured<Expr>, Refusal>
+) -> Result<Measured<Expression>, Refusal>
     requires depth { depth + 1 < 2 ^ 32 }
     requires height { place.height ≡ height_place (view_place place.tree) }
     requires low { place.height ≤ depth + 1 }
@@ -142,20 +140,20 @@ fn stepped(
     let Measured { tree, height } = place;
     let Some((op, line)) = next_step(cursor) else {
         return Ok(Measured {
-            tree: Expr::Place(tree),
+            tree: Expression::Place(tree),
             height,
         });
     };
     rise(cursor, depth, height)?;
     Ok(Measured {
-        tree: Expr::Postfix(tree, op, line),
+        tree: Expression::Postfix(tree, op, line),
         height: height + 1,
     })
 }
 
 /// Reads what stands between operators that have two sides.
 #[cycle(expression)]
-fn operand(alloc: Global, cursor: &mut Cursor<'_>, depth: u32) -> Result<Measured<Expr>, Refusal>
+fn operand(alloc: Global, cursor: &mut Cursor<'_>, depth: u32) -> Result<Measured<Expression>, Refusal>
     requires { depth + 1 < 2 ^ 32 }
     ensures read { Gives (λ e. view e.tree) (reader.operand depth (below depth) cursor.old) result cursor.new }
     ensures height { IfOk result (λ e. e.height ≡ height (view e.tree)) }
@@ -165,7 +163,7 @@ fn operand(alloc: Global, cursor: &mut Cursor<'_>, depth: u32) -> Result<Measure
         Lead::Number(number) => {
             cursor.skip();
             Ok(Measured {
-                tree: Expr::Number(number),
+                tree: Expression::Number(number),
                 height: 1,
             })
         }
@@ -178,7 +176,7 @@ fn operand(alloc: Global, cursor: &mut Cursor<'_>, depth: u32) -> Result<Measure
             let Measured { tree, height } = at_least(alloc, cursor, depth, ANY)?;
             cursor.expect(Sign::ParenClose)?;
             Ok(Measured {
-                tree: Expr::Paren(Box::new(alloc, tree)?),
+                tree: Expression::Paren(Box::new(alloc, tree)?),
                 height: height + 1,
             })
         }
@@ -186,7 +184,7 @@ fn operand(alloc: Global, cursor: &mut Cursor<'_>, depth: u32) -> Result<Measure
             rise(cursor, depth, 1)?;
             let Measured { tree, height } = at_least(alloc, cursor, depth, UNARY)?;
             Ok(Measured {
-                tree: Expr::Unary(op, line, Box::new(alloc, tree)?),
+                tree: Expression::Unary(op, line, Box::new(alloc, tree)?),
                 height: height + 1,
             })
         }
@@ -194,7 +192,7 @@ fn operand(alloc: Global, cursor: &mut Cursor<'_>, depth: u32) -> Result<Measure
             rise(cursor, depth, 1)?;
             let Measured { tree, height } = place(alloc, cursor, depth)?;
             Ok(Measured {
-                tree: Expr::Prefix(op, line, tree),
+                tree: Expression::Prefix(op, line, tree),
                 height: height + 1,
             })
         }
@@ -203,10 +201,10 @@ fn operand(alloc: Global, cursor: &mut Cursor<'_>, depth: u32) -> Result<Measure
 }
 
 /// A call of a function with these arguments.
-fn call(name: Name, list: Vec<Expr>) -> Expr
+fn call(name: Name, list: Vec<Expression>) -> Expression
     ensures { view result ≡ tree.call name (expressions (map view list.items)) }
 {
-    Expr::Call(name, list)
+    Expression::Call(name, list)
 }
 
 /// Goes on behind a name that an expression begins with.
@@ -216,7 +214,7 @@ fn named(
     cursor: &mut Cursor<'_>,
     depth: u32,
     name: Name,
-) -> Result<Measured<Expr>, Refusal>
+) -> Result<Measured<Expression>, Refusal>
     requires { depth + 1 < 2 ^ 32 }
     ensures read { Gives (λ e. view e.tree) (reader.named_behind depth (below depth) name cursor.old) result cursor.new }
     ensures height { IfOk result (λ e. e.height ≡ height (view e.tree)) }
@@ -248,7 +246,7 @@ fn arguments(
     alloc: Global,
     cursor: &mut Cursor<'_>,
     depth: u32,
-) -> Result<Measured<Vec<Expr>>, Refusal>
+) -> Result<Measured<Vec<Expression>>, Refusal>
     requires depth { depth + 1 < 2 ^ 32 }
     requires over { 1 ≤ depth }
     ensures read { Gives (λ list. map view list.tree.items) (list_of ((below depth).at_least 0) cursor.old) result cursor.new }
@@ -275,8 +273,8 @@ fn climb(
     cursor: &mut Cursor<'_>,
     depth: u32,
     least: u8,
-    first: Measured<Expr>,
-) -> Result<Measured<Expr>, Refusal>
+    first: Measured<Expression>,
+) -> Result<Measured<Expression>, Refusal>
     requires depth { depth + 1 < 2 ^ 32 }
     requires height { first.height ≡ height (view first.tree) }
     requires low { first.height ≤ depth + 1 }
@@ -303,8 +301,8 @@ fn operation(
     depth: u32,
     operator: Infix,
     line: u32,
-    left: Measured<Expr>,
-) -> Result<Measured<Expr>, Refusal>
+    left: Measured<Expression>,
+) -> Result<Measured<Expression>, Refusal>
     requires depth { depth + 1 < 2 ^ 32 }
     requires height { left.height ≡ height (view left.tree) }
     requires low { left.height ≤ depth }
@@ -320,19 +318,19 @@ fn operation(
             let height = height.max(right.height) + 1;
             let (a, b) = (Box::new(alloc, tree)?, Box::new(alloc, right.tree)?);
             Ok(Measured {
-                tree: Expr::Binary(a, op, line, b),
+                tree: Expression::Binary(a, op, line, b),
                 height,
             })
         }
         Infix::Question => choice(alloc, cursor, depth, line, Measured { tree, height }),
         Infix::Assign(op) => {
-            let Expr::Place(place) = tree else {
+            let Expression::Place(place) = tree else {
                 return Err(Refusal::Unexpected);
             };
             let right = at_least(alloc, cursor, depth, ANY)?;
             let height = height.max(right.height) + 1;
             Ok(Measured {
-                tree: Expr::Assign(place, op, line, Box::new(alloc, right.tree)?),
+                tree: Expression::Assign(place, op, line, Box::new(alloc, right.tree)?),
                 height,
             })
         }
@@ -346,8 +344,8 @@ fn choice(
     cursor: &mut Cursor<'_>,
     depth: u32,
     line: u32,
-    test: Measured<Expr>,
-) -> Result<Measured<Expr>, Refusal>
+    test: Measured<Expression>,
+) -> Result<Measured<Expression>, Refusal>
     requires depth { depth + 1 < 2 ^ 32 }
     requires height { test.height ≡ height (view test.tree) }
     requires low { test.height ≤ depth }
@@ -362,7 +360,7 @@ fn choice(
     let height = test.height.max(then.height.max(other.height)) + 1;
     let (a, b) = (Box::new(alloc, then.tree)?, Box::new(alloc, other.tree)?);
     Ok(Measured {
-        tree: Expr::Choice(Box::new(alloc, test.tree)?, line, a, b),
+        tree: Expression::Choice(Box::new(alloc, test.tree)?, line, a, b),
         height,
     })
 }

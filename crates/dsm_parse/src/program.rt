@@ -5,13 +5,12 @@ ghost use Rattle.dsm_syntax.specs.declared.errors.ProgErr.{ProgErr};
 ghost use Rattle.dsm_syntax.specs.Tree.{Item};
 ghost use Rattle.dsm_syntax.specs.Programs.{view_tree};
 ghost use Rattle.dsm_syntax.specs.Views.{view_items};
-ghost use Rattle.dsm_cursor.specs.Lexemes.{lexemes};
-ghost use Rattle.dsm_parse.specs.Programs.{IsProgramOf};
-ghost use Rattle.dsm_parse.specs.Refusals.{line_at, IsRefused};
+ghost use Rattle.dsm_syntax.specs.Lexemes.{lexemes};
+ghost use Rattle.dsm_laws_grammar.specs.Programs.{IsProgramOf};
+ghost use Rattle.dsm_laws_grammar.specs.Refusals.{line_at, IsRefused};
 
 use crate::item::items;
-use dsm_cursor::{Cursor, Refusal};
-use dsm_syntax::{ProgErr, Token, Tokens, Tree, Which};
+use dsm_syntax::{Cursor, ProgErr, Refusal, Token, Tokens, Tree, Which};
 use std::alloc::Global;
 
 /// How many nodes there may be on a way down in a function.

@@ -2,13 +2,12 @@
 
 ghost use Rattle.std.specs.Prelude.{◌≡◌, ◌≤◌, ◌<◌, ◌^◌, map};
 ghost use Rattle.dsm_syntax.specs.Views.{option_view, view_initial, view_variable};
-ghost use Rattle.dsm_cursor.specs.Gives.{Gives};
-ghost use Rattle.dsm_cursor.specs.Reading.{look, list_of};
-ghost use Rattle.dsm_parse.specs.Statements as reader;
+ghost use Rattle.dsm_syntax.specs.Gives.{Gives};
+ghost use Rattle.dsm_syntax.specs.Reading.{look, list_of};
+ghost use Rattle.dsm_laws_grammar.specs.Statements as reader;
 
 use crate::expression::expression;
-use dsm_cursor::{Cursor, Refusal};
-use dsm_syntax::{Initial, Sign, Variable, Word};
+use dsm_syntax::{Cursor, Initial, Refusal, Sign, Variable, Word};
 use std::alloc::Global;
 
 /// The line of a `=` that comes next.
