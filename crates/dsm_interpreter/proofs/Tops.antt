@@ -3,7 +3,7 @@ use borrow.Author.Tests.{ltb-true, ltb-false}
 use Rattle.std.proofs.Common.{Bool, true, false, nat_lt, ◌≡◌, ℕ, ◌-◌, ◌<◌, ◌≤◌, ℤ, pos, List, [], ◌∷◌, ◌++◌, length, take, drop, get_or, refl, sym, ap, ◌∙◌, arith, length-drop}
 use Rattle.std.specs.Prelude.{reverse}
 use Rattle.std.proofs.lemmas.List.{reverse-append, length-reverse, take-append-drop, take_all, take_at, drop_at, drop_all, get_or-reverse, reverse-reverse, take_rest}
-use Rattle.dsm_check.specs.SemanticsItems.{top, below}
+use Rattle.dsm_semantics.specs.States.{top, below}
 
 top_is : (values : List ℤ) → top values ≡ get_or values 0 (pos 0)
 top_is [] = refl

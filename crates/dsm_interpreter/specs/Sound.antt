@@ -1,7 +1,7 @@
 -- Threads whose programs name only cells, locks and barriers that there are.
 use Rattle.std.specs.Prelude.{◌^◌, ◌≤◌}
-use Rattle.dsm_check.specs.SemanticsItems as m
-use Rattle.dsm_check.specs.SemanticsWithin.{Extent, IsItemWithin, IsStateWithin}
+use Rattle.dsm_semantics.specs.States as m
+use Rattle.dsm_semantics.specs.Within.{Extent, IsItemWithin, IsStateWithin}
 
 -- numbers of cells and locks have 32 and 16 bits
 pub record IsNarrow (extent : Extent) : Type 0 where

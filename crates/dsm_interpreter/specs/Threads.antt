@@ -6,8 +6,8 @@ use Rattle.dsm_check.specs.declared.resolved.Expression.{Expression}
 use Rattle.dsm_check.specs.declared.resolved.Statement.{Statement}
 use Rattle.dsm_check.specs.Resolved as r
 use Rattle.dsm_check.specs.Views.{view, views, view_variable, view_part, view_statement, view_statements}
-use Rattle.dsm_check.specs.SemanticsSteps.{Move, goes, asks}
-use Rattle.dsm_check.specs.SemanticsItems as m
+use Rattle.dsm_semantics.specs.Steps.{Move, goes, asks}
+use Rattle.dsm_semantics.specs.States as m
 use Rattle.dsm_interpreter.specs.declared.item.Place.{Place}
 use Rattle.dsm_interpreter.specs.declared.item.LockAt.{LockAt}
 use Rattle.dsm_interpreter.specs.declared.item.Use.{Use}

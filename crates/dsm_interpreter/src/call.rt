@@ -2,11 +2,11 @@
 
 ghost use Rattle.std.specs.Prelude.{◌≡◌, ℤ, [], ◌∷◌, map, slice_get, OnOk, OnSome, IfOk, Some};
 ghost use Rattle.dsm_check.specs.Views.{view_function};
-ghost use Rattle.dsm_check.specs.SemanticsSteps.{next_of};
-ghost use Rattle.dsm_check.specs.Semantics;
+ghost use Rattle.dsm_semantics.specs.Steps.{next_of};
+ghost use Rattle.dsm_semantics.specs.Semantics;
 ghost use Rattle.dsm_check.specs.Resolved as r;
-ghost use Rattle.dsm_check.specs.Semantics.{numbered};
-ghost use Rattle.dsm_check.specs.SemanticsItems.{run, over};
+ghost use Rattle.dsm_semantics.specs.Semantics.{numbered};
+ghost use Rattle.dsm_semantics.specs.States.{run, over};
 ghost use Rattle.dsm_interpreter.specs.Finished.{return_finished};
 ghost use Rattle.dsm_interpreter.specs.Threads.{Makes, callee_of, state_of, frame_of, life_of};
 

@@ -2,10 +2,10 @@
 
 ghost use Rattle.std.specs.Prelude.{◌≡◌, [], None, OnOk, IfOk};
 ghost use Rattle.dsm_check.specs.Views.{view, view_location, views};
-ghost use Rattle.dsm_check.specs.SemanticsItems.{and_then, or_else, to_truth, choose, top, below};
-ghost use Rattle.dsm_check.specs.SemanticsValues;
-ghost use Rattle.dsm_check.specs.SemanticsSteps.{goes};
-ghost use Rattle.dsm_check.specs.Semantics;
+ghost use Rattle.dsm_semantics.specs.States.{and_then, or_else, to_truth, choose, top, below};
+ghost use Rattle.dsm_semantics.specs.Values;
+ghost use Rattle.dsm_semantics.specs.Steps.{goes};
+ghost use Rattle.dsm_semantics.specs.Semantics;
 ghost use Rattle.dsm_check.specs.Resolved as r;
 ghost use Rattle.dsm_interpreter.specs.Threads.{Makes, state_of};
 
@@ -102,7 +102,7 @@ impl<'a> PlainThread<'a> {
         line: u32,
         e: &'a Expression,
     ) -> Result<(), MemFault>
-        ensures { OnOk result (state_of self.new ≡ record (state_of self.old) { todo = Semantics.assigning (SemanticsValues.operator_of op) line (Semantics.place_of (view_location location.now)) (view e.now) (state_of self.old).todo }) }
+        ensures { OnOk result (state_of self.new ≡ record (state_of self.old) { todo = Semantics.assigning (Values.operator_of op) line (Semantics.place_of (view_location location.now)) (view e.now) (state_of self.old).todo }) }
     {
         let place = place(location);
         self.frame.todo.push(Item::Store(place))?;
@@ -130,21 +130,21 @@ impl<'a> PlainThread<'a> {
     }
 
     pub fn unary(&mut self, op: UnaryOp, line: u32) -> Result<Option<Want>, MemFault>
-        ensures { IfOk result (λ wanted. Makes (Semantics.comes_to (state_of self.old) (below (state_of self.old).operands) line (SemanticsValues.unary_value op (top (state_of self.old).operands))) (state_of self.old) (state_of self.new) wanted) }
+        ensures { IfOk result (λ wanted. Makes (Semantics.comes_to (state_of self.old) (below (state_of self.old).operands) line (Values.unary_value op (top (state_of self.old).operands))) (state_of self.old) (state_of self.new) wanted) }
     {
         let outcome = unary_value(op, self.frame.operands.value());
         self.come_to(line, outcome)
     }
 
     pub fn step_by(&mut self, op: StepOp, line: u32) -> Result<Option<Want>, MemFault>
-        ensures { IfOk result (λ wanted. Makes (Semantics.comes_to (state_of self.old) (below (state_of self.old).operands) line (SemanticsValues.step_value op (top (state_of self.old).operands))) (state_of self.old) (state_of self.new) wanted) }
+        ensures { IfOk result (λ wanted. Makes (Semantics.comes_to (state_of self.old) (below (state_of self.old).operands) line (Values.step_value op (top (state_of self.old).operands))) (state_of self.old) (state_of self.new) wanted) }
     {
         let outcome = step_value(op, self.frame.operands.value());
         self.come_to(line, outcome)
     }
 
     pub fn binary(&mut self, op: BinaryOp, line: u32) -> Result<Option<Want>, MemFault>
-        ensures { IfOk result (λ wanted. Makes (Semantics.comes_to (state_of self.old) (below (below (state_of self.old).operands)) line (SemanticsValues.binary_value op (top (below (state_of self.old).operands)) (top (state_of self.old).operands))) (state_of self.old) (state_of self.new) wanted) }
+        ensures { IfOk result (λ wanted. Makes (Semantics.comes_to (state_of self.old) (below (below (state_of self.old).operands)) line (Values.binary_value op (top (below (state_of self.old).operands)) (top (state_of self.old).operands))) (state_of self.old) (state_of self.new) wanted) }
     {
         let a = self.frame.operands.value_below();
         let b = self.frame.operands.value();
@@ -175,7 +175,7 @@ impl<'a> PlainThread<'a> {
 
     /// Takes the value on top, and tells whether it holds as a condition.
     pub fn pop_condition(&mut self) -> bool
-        ensures value { result ≡ SemanticsValues.holds (top (state_of self.old).operands) }
+        ensures value { result ≡ Values.holds (top (state_of self.old).operands) }
         ensures state { state_of self.new ≡ record (state_of self.old) { operands = below (state_of self.old).operands } }
     {
         self.frame.operands.pop_value() != 0
@@ -225,7 +225,7 @@ impl<'a> PlainThread<'a> {
 
 /// The operator of an assignment that changes what is there.
 fn operator_of(op: AssignOp) -> Option<BinaryOp>
-    ensures { result ≡ SemanticsValues.operator_of op }
+    ensures { result ≡ Values.operator_of op }
 {
     match op {
         AssignOp::Set => None,

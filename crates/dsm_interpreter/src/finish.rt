@@ -2,7 +2,7 @@
 
 ghost use Rattle.std.specs.Prelude.{◌≡◌, map, drop, OnOk};
 ghost use Rattle.dsm_check.specs.Views.{view_function, view_part, view_statement};
-ghost use Rattle.dsm_check.specs.Semantics;
+ghost use Rattle.dsm_semantics.specs.Semantics;
 ghost use Rattle.dsm_interpreter.specs.Finished.{all_finished, finished, load_finished, store_finished, statement_finished};
 ghost use Rattle.dsm_interpreter.specs.Threads.{state_of, item_of, place_of, use_of};
 

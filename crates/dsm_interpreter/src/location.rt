@@ -2,10 +2,10 @@
 
 ghost use Rattle.std.specs.Prelude.{◌≡◌, [], ◌∷◌, get_or, set, pos, ◌<◌, ◌^◌, None, OnOk, IfOk};
 ghost use Rattle.dsm_check.specs.Views.{view_location};
-ghost use Rattle.dsm_check.specs.SemanticsItems.{member, load, store, top, below};
-ghost use Rattle.dsm_check.specs.Semantics.{reaching, loaded, load_at, store_at};
-ghost use Rattle.dsm_check.specs.Semantics;
-ghost use Rattle.dsm_check.specs.SemanticsSteps.{goes};
+ghost use Rattle.dsm_semantics.specs.States.{member, load, store, top, below};
+ghost use Rattle.dsm_semantics.specs.Semantics.{reaching, loaded, load_at, store_at};
+ghost use Rattle.dsm_semantics.specs.Semantics;
+ghost use Rattle.dsm_semantics.specs.Steps.{goes};
 ghost use Rattle.dsm_interpreter.specs.Sound.{IsSoundItem};
 ghost use Rattle.dsm_interpreter.specs.Threads.{Makes, state_of, place_of, use_of};
 

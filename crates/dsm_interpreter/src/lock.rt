@@ -1,9 +1,9 @@
 //! Locks that a thread wants.
 
 ghost use Rattle.std.specs.Prelude.{◌≡◌, [], None, Some, MatchOption};
-ghost use Rattle.dsm_check.specs.SemanticsItems.{ask, take_lock, give};
-ghost use Rattle.dsm_check.specs.Semantics;
-ghost use Rattle.dsm_check.specs.Semantics.{lock_number, below_index};
+ghost use Rattle.dsm_semantics.specs.States.{ask, take_lock, give};
+ghost use Rattle.dsm_semantics.specs.Semantics;
+ghost use Rattle.dsm_semantics.specs.Semantics.{lock_number, below_index};
 ghost use Rattle.dsm_interpreter.specs.Sound.{IsSoundItem};
 ghost use Rattle.dsm_interpreter.specs.Threads.{Makes, state_of, lock_of};
 

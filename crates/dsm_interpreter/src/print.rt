@@ -2,9 +2,9 @@
 
 ghost use Rattle.std.specs.Prelude.{◌≡◌, ◌++◌, map, IfOk, OnOk};
 ghost use Rattle.dsm_check.specs.Views.{view_part};
-ghost use Rattle.dsm_check.specs.SemanticsItems.{top, below};
-ghost use Rattle.dsm_check.specs.Semantics.{parts_text, text_at};
-ghost use Rattle.dsm_check.specs.SemanticsWithin.{Extent, ArePartsWithin, most_bytes, IsStateWithin};
+ghost use Rattle.dsm_semantics.specs.States.{top, below};
+ghost use Rattle.dsm_semantics.specs.Semantics.{parts_text, text_at};
+ghost use Rattle.dsm_semantics.specs.Within.{Extent, ArePartsWithin, most_bytes, IsStateWithin};
 ghost use Rattle.dsm_interpreter.specs.Lines.{Grows, IsLine};
 ghost use Rattle.dsm_interpreter.specs.Threads.{state_of};
 

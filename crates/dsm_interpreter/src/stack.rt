@@ -1,7 +1,7 @@
 //! A stack, which contracts see as a list with the top first.
 
 ghost use Rattle.std.specs.Prelude.{◌≡◌, List, [], ◌∷◌, length, reverse, take, drop, OnOk, MatchOption};
-ghost use Rattle.dsm_check.specs.SemanticsItems.{top, below};
+ghost use Rattle.dsm_semantics.specs.States.{top, below};
 
 use dsm_base::MemFault;
 use std::alloc::Global;

@@ -2,10 +2,10 @@
 
 ghost use Rattle.std.specs.Prelude.{◌≡◌, if◌then◌else◌, List, [], ◌∷◌, map, None, Some, OnOk, IfOk};
 ghost use Rattle.dsm_check.specs.Views.{view, view_statement, view_statements, view_variable, view_part, view_start, view_lock};
-ghost use Rattle.dsm_check.specs.SemanticsItems.{declare, branch, gather, execute};
-ghost use Rattle.dsm_check.specs.SemanticsItems;
-ghost use Rattle.dsm_check.specs.SemanticsSteps.{goes};
-ghost use Rattle.dsm_check.specs.Semantics;
+ghost use Rattle.dsm_semantics.specs.States.{declare, branch, gather, execute};
+ghost use Rattle.dsm_semantics.specs.States;
+ghost use Rattle.dsm_semantics.specs.Steps.{goes};
+ghost use Rattle.dsm_semantics.specs.Semantics;
 ghost use Rattle.dsm_check.specs.Resolved as r;
 ghost use Rattle.dsm_interpreter.specs.Threads.{Makes, state_of, frame_of, item_of, loop_of, other_of, option_of, lock_of, stage_of};
 
@@ -59,7 +59,7 @@ impl<'a> PlainThread<'a> {
         body: &'a Statement,
         other: Option<&'a Statement>,
     ) -> Result<(), MemFault>
-        ensures { OnOk result (state_of self.new ≡ record (state_of self.old) { todo = SemanticsItems.evaluate (view test.now) ∷ branch (view_statement body.now) (other_of other.entry) ∷ (state_of self.old).todo }) }
+        ensures { OnOk result (state_of self.new ≡ record (state_of self.old) { todo = States.evaluate (view test.now) ∷ branch (view_statement body.now) (other_of other.entry) ∷ (state_of self.old).todo }) }
     {
         self.frame.todo.push(Item::Branch(body, other))?;
         self.frame.todo.push(Item::Evaluate(test))
@@ -71,7 +71,7 @@ impl<'a> PlainThread<'a> {
         step: Option<&'a Expression>,
         body: &'a Statement,
     ) -> Result<(), MemFault>
-        ensures { OnOk result (state_of self.new ≡ record (state_of self.old) { todo = SemanticsItems.round (record { test = option_of test.entry; step = option_of step.entry; body = view_statement body.now }) ∷ (state_of self.old).todo }) }
+        ensures { OnOk result (state_of self.new ≡ record (state_of self.old) { todo = States.round (record { test = option_of test.entry; step = option_of step.entry; body = view_statement body.now }) ∷ (state_of self.old).todo }) }
     {
         let looping = Loop { test, step, body };
         self.frame.todo.push(Item::Go(LoopStage::Round, looping))
@@ -212,7 +212,7 @@ impl<'a> PlainThread<'a> {
     }
 
     fn begin_round(&mut self, looping: Loop<'a>) -> Result<(), MemFault>
-        ensures { OnOk result (Makes (Semantics.act [] (state_of self.old) (SemanticsItems.round (loop_of looping.entry))) (state_of self.old) (state_of self.new) None) }
+        ensures { OnOk result (Makes (Semantics.act [] (state_of self.old) (States.round (loop_of looping.entry))) (state_of self.old) (state_of self.new) None) }
     {
         match looping.test {
             None => self.begin_body(looping),
@@ -224,7 +224,7 @@ impl<'a> PlainThread<'a> {
     }
 
     fn begin_body(&mut self, looping: Loop<'a>) -> Result<(), MemFault>
-        ensures { OnOk result (state_of self.new ≡ record (state_of self.old) { todo = execute (loop_of looping.entry).body ∷ SemanticsItems.third_part (loop_of looping.entry) ∷ (state_of self.old).todo }) }
+        ensures { OnOk result (state_of self.new ≡ record (state_of self.old) { todo = execute (loop_of looping.entry).body ∷ States.third_part (loop_of looping.entry) ∷ (state_of self.old).todo }) }
     {
         self.frame
             .todo
@@ -284,8 +284,8 @@ impl Frame<'_> {
 
 /// Whether the item comes right behind the body of a loop.
 fn is_third_part(item: Item<'_>) -> bool
-    ensures in_loop { (k : List SemanticsItems.Item) → Semantics.after_loop (item_of item.entry ∷ k) ≡ (if result then k else Semantics.after_loop k) }
-    ensures in_body { (k : List SemanticsItems.Item) → Semantics.after_body (item_of item.entry ∷ k) ≡ (if result then item_of item.entry ∷ k else Semantics.after_body k) }
+    ensures in_loop { (k : List States.Item) → Semantics.after_loop (item_of item.entry ∷ k) ≡ (if result then k else Semantics.after_loop k) }
+    ensures in_body { (k : List States.Item) → Semantics.after_body (item_of item.entry ∷ k) ≡ (if result then item_of item.entry ∷ k else Semantics.after_body k) }
 {
     matches!(item, Item::Go(LoopStage::ThirdPart, _))
 }

@@ -2,8 +2,8 @@
 
 ghost use Rattle.std.specs.Prelude.{◌≡◌, List, None, Some, IfOk, OnOk};
 ghost use Rattle.dsm_check.specs.Resolved as r;
-ghost use Rattle.dsm_check.specs.Semantics;
-ghost use Rattle.dsm_check.specs.Semantics.{step};
+ghost use Rattle.dsm_semantics.specs.Semantics;
+ghost use Rattle.dsm_semantics.specs.Semantics.{step};
 ghost use Rattle.dsm_interpreter.specs.Sound.{IsSoundItem, IsSoundState};
 ghost use Rattle.dsm_interpreter.specs.Threads.{Makes, state_of, item_of};
 

@@ -5,9 +5,9 @@ ghost use Rattle.dsm_base.specs.declared.label.Label.{Label};
 ghost use Rattle.dsm_base.specs.Threads.{Completes};
 ghost use Rattle.dsm_check.specs.Resolved as r;
 ghost use Rattle.dsm_check.specs.Views.{view_function};
-ghost use Rattle.dsm_check.specs.Semantics.{numbered, started, step, ready, completed};
-ghost use Rattle.dsm_check.specs.SemanticsSteps.{want_of};
-ghost use Rattle.dsm_check.specs.SemanticsWithin.{Extent, IsStateWithin};
+ghost use Rattle.dsm_semantics.specs.Semantics.{numbered, started, step, ready, completed};
+ghost use Rattle.dsm_semantics.specs.Steps.{want_of};
+ghost use Rattle.dsm_semantics.specs.Within.{Extent, IsStateWithin};
 ghost use Rattle.dsm_interpreter.specs.Sound.{IsSoundState};
 ghost use Rattle.dsm_interpreter.specs.Threads.{state_of};
 

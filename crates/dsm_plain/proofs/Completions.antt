@@ -5,17 +5,18 @@ use Rattle.dsm_base.specs.Family.{update}
 use Rattle.dsm_base.specs.Plain.{PlainState, plain_after, held_after, arrived_after, crossed_after, memory_after, versions_after}
 use Rattle.dsm_check.specs.CheckedViews.{program_of}
 use Rattle.dsm_check.specs.Resolved as r
-use Rattle.dsm_check.specs.Semantics.{ready, completed}
-use Rattle.dsm_check.specs.SemanticsItems.{State}
-use Rattle.dsm_check.specs.SemanticsWithin.{Extent, extent_of, AreFunctionsWithin, IsStateWithin}
-use Rattle.dsm_check.proofs.SemanticsNames.{want_within, completed_within, ready_within}
+use Rattle.dsm_semantics.specs.Semantics.{ready, completed}
+use Rattle.dsm_semantics.specs.States.{State}
+use Rattle.dsm_semantics.specs.Within.{Extent, extent_of, AreFunctionsWithin, IsStateWithin}
+use Rattle.dsm_semantics.proofs.Within.{want_within, completed_within, ready_within}
 use Rattle.dsm_interpreter.specs.declared.thread.PlainThread.{PlainThread}
 use Rattle.dsm_interpreter.specs.Sound.{IsSoundState}
 use Rattle.dsm_interpreter.specs.Threads.{state_of}
 use Rattle.dsm_plain.specs.declared.machine.Plain.{Plain}
 use Rattle.dsm_plain.specs.declared.standing.Standing.{Standing}
 use Rattle.dsm_plain.specs.Labels.{Follows}
-use Rattle.dsm_plain.specs.Machine.{HasSizes, IsWhole, want_at, machine_of, semantics_of, family_of, first_states, standing_at, no_standing, held_of, arrived_of, crossed_of}
+use Rattle.dsm_semantics.specs.Programs.{first_states}
+use Rattle.dsm_plain.specs.Machine.{HasSizes, IsWhole, want_at, machine_of, semantics_of, family_of, standing_at, no_standing, held_of, arrived_of, crossed_of}
 use Rattle.dsm_plain.proofs.Extents.{narrow_setup, functions_set_up, IsLabelWithin, label_within}
 use Rattle.dsm_plain.proofs.Families.{family_of_set, update_under}
 use Rattle.dsm_plain.proofs.States.{found_has, state_found, states_put, states_have}

@@ -7,7 +7,7 @@ use Rattle.dsm_base.specs.declared.setup.Setup.{Setup}
 use Rattle.dsm_base.specs.Access.{is_exclusive}
 use Rattle.dsm_base.specs.Plain.{PlainState, plain_after, versions_after, arrived_after}
 use Rattle.dsm_base.specs.Threads.{Semantics}
-use Rattle.dsm_check.specs.SemanticsItems.{State}
+use Rattle.dsm_semantics.specs.States.{State}
 use Rattle.dsm_plain.specs.declared.waiting.Picked.{Picked}
 use Rattle.dsm_plain.specs.Machine.{AreBelow}
 use Rattle.dsm_plain.specs.Waiting.{IsPick}

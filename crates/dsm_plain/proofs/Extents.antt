@@ -11,14 +11,13 @@ use Rattle.dsm_base.specs.Threads.{Completes}
 use Rattle.dsm_check.specs.declared.checked.Checked.{Checked}
 use Rattle.dsm_check.specs.CheckedViews.{program_of}
 use Rattle.dsm_check.specs.Setups.{IsSetupOf}
-use Rattle.dsm_check.specs.Semantics.{numbered, started}
-use Rattle.dsm_check.specs.SemanticsWithin.{Extent, extent_of, NamesWithin, AreFunctionsWithin, IsStateWithin}
+use Rattle.dsm_semantics.specs.Semantics.{numbered, started}
+use Rattle.dsm_semantics.specs.Within.{Extent, extent_of, NamesWithin, AreFunctionsWithin, IsStateWithin, extent_in}
 use Rattle.dsm_check.proofs.Settings.{setting}
-use Rattle.dsm_check.proofs.SemanticsAccepted.{accepted_within}
-use Rattle.dsm_check.proofs.SemanticsNames.{body_within}
+use Rattle.dsm_semantics.proofs.Accepted.{accepted_within}
+use Rattle.dsm_semantics.proofs.Within.{body_within}
 use Rattle.dsm_interpreter.specs.Sound.{IsNarrow}
 use Rattle.dsm_plain.specs.Labels.{TakesLocks, WritesCells, PassesBarriers, Follows}
-use Rattle.dsm_plain.specs.Machine.{extent_in}
 
 few_cells : (procs locks bars cells : ℕ) (pieces : List Piece) → IsTrue (is_setup procs locks bars cells pieces) → (cells ≤ 2 ^ 32) × (locks ≤ 2 ^ 16)
 few_cells procs locks bars cells pieces h = (grind (arith, nat_tests), grind (arith, nat_tests))

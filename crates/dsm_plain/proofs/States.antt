@@ -6,10 +6,10 @@ use Rattle.std.proofs.lemmas.List.Elements.{All-get_or}
 use Rattle.std.proofs.Math.Seq.{map-set_same}
 use Rattle.dsm_base.specs.Family.{update}
 use Rattle.dsm_check.specs.Resolved as r
-use Rattle.dsm_check.specs.Semantics.{step, ready}
-use Rattle.dsm_check.specs.SemanticsItems.{State}
-use Rattle.dsm_check.proofs.StepsSettle.{settled_stays, settled_reaches}
-use Rattle.dsm_check.proofs.SemanticsFalls.{weight_at, step_falls}
+use Rattle.dsm_semantics.specs.Semantics.{step, ready}
+use Rattle.dsm_semantics.specs.States.{State}
+use Rattle.dsm_semantics.proofs.StepsSettle.{settled_stays, settled_reaches}
+use Rattle.dsm_semantics.proofs.Falls.{weight_at, step_falls}
 use Rattle.dsm_interpreter.specs.declared.thread.PlainThread.{PlainThread}
 use Rattle.dsm_interpreter.specs.Threads.{state_of}
 use Rattle.dsm_plain.specs.Machine.{family_of}

@@ -13,8 +13,8 @@ use Rattle.dsm_base.specs.Access.{may_load, may_store}
 use Rattle.dsm_base.specs.Plain.{PlainState, Surroundings, label_of, is_possible, can_cross}
 use Rattle.dsm_check.specs.declared.checked.Checked.{Checked}
 use Rattle.dsm_check.specs.CheckedViews.{program_of}
-use Rattle.dsm_check.specs.Semantics.{program_semantics}
-use Rattle.dsm_check.specs.SemanticsItems.{State}
+use Rattle.dsm_semantics.specs.Semantics.{program_semantics}
+use Rattle.dsm_semantics.specs.States.{State}
 use Rattle.dsm_plain.specs.declared.waiting.Picked.{Picked}
 use Rattle.dsm_plain.specs.Labels.{Follows}
 use Rattle.dsm_plain.specs.Waiting.{IsPick}

@@ -10,9 +10,9 @@ use Rattle.dsm_check.specs.CheckedViews.{program_of}
 use Rattle.dsm_check.specs.Programs.{Program}
 use Rattle.dsm_check.specs.Resolved as r
 use Rattle.dsm_check.specs.Setups.{IsSetupOf}
-use Rattle.dsm_check.specs.Semantics.{ready, first_state, program_semantics}
-use Rattle.dsm_check.specs.SemanticsItems.{State}
-use Rattle.dsm_check.specs.SemanticsWithin.{Extent, extent_of, IsStateWithin}
+use Rattle.dsm_semantics.specs.Semantics.{ready, first_state, program_semantics}
+use Rattle.dsm_semantics.specs.States.{State}
+use Rattle.dsm_semantics.specs.Within.{Extent, extent_of, IsStateWithin}
 use Rattle.dsm_interpreter.specs.declared.thread.PlainThread.{PlainThread}
 use Rattle.dsm_interpreter.specs.Threads.{state_of}
 use Rattle.dsm_plain.specs.declared.standing.Standing.{Standing}

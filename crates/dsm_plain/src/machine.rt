@@ -6,8 +6,9 @@ ghost use Rattle.dsm_base.specs.Setups.{is_proc_count};
 ghost use Rattle.dsm_base.specs.declared.label.Want.{Want};
 ghost use Rattle.dsm_check.specs.CheckedViews.{program_of};
 ghost use Rattle.dsm_check.specs.Setups.{IsSetupOf, fitting};
-ghost use Rattle.dsm_check.specs.Semantics.{program_semantics};
-ghost use Rattle.dsm_plain.specs.Machine.{machine_of, semantics_of, want_at, first_states, AreBelow, IsWhole, IsSameProgram};
+ghost use Rattle.dsm_semantics.specs.Semantics.{program_semantics};
+ghost use Rattle.dsm_semantics.specs.Programs.{first_states};
+ghost use Rattle.dsm_plain.specs.Machine.{machine_of, semantics_of, want_at, AreBelow, IsWhole, IsSameProgram};
 ghost use Rattle.dsm_plain.specs.Waiting.{IsPick, TurnPrintsLine};
 
 use crate::standing::{Numbers, Standing};

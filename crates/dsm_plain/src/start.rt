@@ -3,9 +3,10 @@
 ghost use Rattle.std.specs.Prelude.{◌≡◌, ℕ, pos, map, length, IfOk};
 ghost use Rattle.std.specs.List.{All};
 ghost use Rattle.dsm_check.specs.CheckedViews.{program_of};
-ghost use Rattle.dsm_check.specs.SemanticsWithin.{IsStateWithin};
+ghost use Rattle.dsm_semantics.specs.Within.{IsStateWithin, extent_in};
 ghost use Rattle.dsm_interpreter.specs.Threads.{state_of};
-ghost use Rattle.dsm_plain.specs.Machine.{family_of, first_states, no_standing, standing_at, extent_in, IsReady, HasSizes, held_of, arrived_of, crossed_of};
+ghost use Rattle.dsm_semantics.specs.Programs.{first_states};
+ghost use Rattle.dsm_plain.specs.Machine.{family_of, no_standing, standing_at, IsReady, HasSizes, held_of, arrived_of, crossed_of};
 
 use crate::standing::{Numbers, Standing};
 use dsm_base::{MemFault, Proc};

@@ -1,6 +1,6 @@
 use Rattle.std.proofs.Common.{sym, ap, ◌∙◌, map}
 use Rattle.dsm_check.specs.Views.{view_function}
-use Rattle.dsm_check.specs.Semantics.{completed}
+use Rattle.dsm_semantics.specs.Semantics.{completed}
 use Rattle.dsm_interpreter.specs.Threads.{state_of}
 use Rattle.dsm_plain.proofs.turn.go_on.Goals as goal
 

@@ -1,7 +1,7 @@
 use Rattle.std.proofs.Common.{◌∙◌, ap, sym, ℤ, pos, FitsSigned, w64, rules, length, ◌-◌, get_or}
 use Rattle.std.specs.Prelude.{reverse}
 use Rattle.std.proofs.lemmas.Int.{to_z-of_z}
-use Rattle.dsm_check.specs.SemanticsItems.{top, below}
+use Rattle.dsm_semantics.specs.States.{top, below}
 use Rattle.dsm_interpreter.proofs.Tops.{second_last}
 use Rattle.dsm_interpreter.proofs.stack.Stack+i64.value_below.Goals as goal
 

@@ -1,6 +1,6 @@
 use Rattle.std.proofs.Common.{rules, ◌≡◌, map, [], ◌∷◌, sym, ap, ◌∙◌, subst, arith}
 use Rattle.dsm_check.specs.Views.{view_part}
-use Rattle.dsm_check.specs.SemanticsWithin.{AreItemsWithin, most_bytes}
+use Rattle.dsm_semantics.specs.Within.{AreItemsWithin, most_bytes}
 use Rattle.dsm_interpreter.specs.declared.item.Item.{Item}
 use Rattle.dsm_interpreter.specs.Lines.{IsLine, Grows}
 use Rattle.dsm_interpreter.specs.Threads.{item_of}

@@ -1,5 +1,5 @@
 use Rattle.std.proofs.Common.{◌∙◌, subst, sym}
-use Rattle.dsm_check.specs.SemanticsWithin.{IsStateWithin}
+use Rattle.dsm_semantics.specs.Within.{IsStateWithin}
 use Rattle.dsm_interpreter.specs.Threads.{state_of}
 use Rattle.dsm_interpreter.proofs.Moves.{same_ready, less_left, still_within, same_state, is_wanted, is_settled}
 use Rattle.dsm_interpreter.proofs.thread.PlainThread.want.Goals as goal

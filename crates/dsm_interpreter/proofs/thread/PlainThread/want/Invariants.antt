@@ -1,8 +1,8 @@
 use Rattle.std.proofs.Common.{◌≡◌, List}
 use Rattle.dsm_check.specs.Resolved as r
-use Rattle.dsm_check.specs.Semantics.{ready}
-use Rattle.dsm_check.specs.SemanticsWeights.{weight}
-use Rattle.dsm_check.specs.SemanticsWithin.{Extent, IsStateWithin}
+use Rattle.dsm_semantics.specs.Semantics.{ready}
+use Rattle.dsm_semantics.specs.Weights.{weight}
+use Rattle.dsm_semantics.specs.Within.{Extent, IsStateWithin}
 use Rattle.dsm_interpreter.specs.Threads.{state_of}
 use Rattle.dsm_interpreter.proofs.thread.PlainThread.want.Given as goal
 

@@ -1,12 +1,13 @@
 use Rattle.std.proofs.Common.{◌<◌, ◌∙◌, List, ap, sym, subst}
 use Rattle.dsm_check.specs.CheckedViews.{program_of}
-use Rattle.dsm_check.specs.Semantics.{step}
-use Rattle.dsm_check.specs.SemanticsItems.{State}
-use Rattle.dsm_check.specs.SemanticsSteps.{want_of}
-use Rattle.dsm_check.specs.SemanticsWithin.{extent_of, IsStateWithin}
+use Rattle.dsm_semantics.specs.Semantics.{step}
+use Rattle.dsm_semantics.specs.States.{State}
+use Rattle.dsm_semantics.specs.Steps.{want_of}
+use Rattle.dsm_semantics.specs.Within.{extent_of, IsStateWithin}
 use Rattle.dsm_base.specs.Plain.{PlainState}
 use Rattle.dsm_interpreter.specs.Threads.{state_of}
-use Rattle.dsm_plain.specs.Machine.{machine_of, family_of, first_states, IsReady}
+use Rattle.dsm_semantics.specs.Programs.{first_states}
+use Rattle.dsm_plain.specs.Machine.{machine_of, family_of, IsReady}
 use Rattle.dsm_plain.proofs.Extents.{narrow_setup}
 use Rattle.dsm_plain.proofs.Outcomes.{on_ok, if_ok}
 use Rattle.dsm_plain.proofs.States.{found_has, states_same, state_put}

@@ -3,13 +3,13 @@ use Rattle.std.specs.Prelude.{◌≡◌, ℕ, zero, suc, ℤ, List}
 use Rattle.std.proofs.Common.{refl, sym, ◌∙◌, subst}
 use Rattle.dsm_base.specs.declared.label.Want.{Want}
 use Rattle.dsm_check.specs.Resolved as r
-use Rattle.dsm_check.specs.SemanticsItems.{State}
-use Rattle.dsm_check.specs.SemanticsSteps.{Move, goes, asks, goes_on, settle, settled, want_of}
-use Rattle.dsm_check.specs.SemanticsWeights.{weight}
-use Rattle.dsm_check.specs.Semantics.{step, ready}
-use Rattle.dsm_check.proofs.StepsSettle.{Asks, settled_reaches}
-use Rattle.dsm_check.proofs.SemanticsFalls.{weight_at, step_falls}
-use Rattle.dsm_laws_threads.specs.Next.{LeadTo, IsNext}
+use Rattle.dsm_semantics.specs.States.{State}
+use Rattle.dsm_semantics.specs.Steps.{Move, goes, asks, goes_on, settle, settled, want_of}
+use Rattle.dsm_semantics.specs.Weights.{weight}
+use Rattle.dsm_semantics.specs.Semantics.{step, ready}
+use Rattle.dsm_semantics.proofs.StepsSettle.{Asks, settled_reaches}
+use Rattle.dsm_semantics.proofs.Falls.{weight_at, step_falls}
+use Rattle.dsm_semantics.specs.Next.{LeadTo, IsNext}
 
 module _ (functions : List r.Function) where
   record Leads (s t : State) : Type 0 where

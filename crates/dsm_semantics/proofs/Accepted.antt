@@ -1,10 +1,11 @@
 -- An accepted program names only cells, locks and barriers that there are, and its prints fit into lines.
-use Rattle.std.proofs.Common.{◌≡◌, ℕ, ◌+◌, ◌*◌, ◌<◌, ◌≤◌, nat_lt, min, Bool, true, false, ◌&&◌, List, [], ◌∷◌, ◌++◌, length, bytes_eq, Option, Some, None, IfSome, Ok, Err, refl, subst, if◌then◌else◌, arith}
+use Rattle.std.proofs.Common.{◌≡◌, ℕ, ◌+◌, ◌*◌, ◌<◌, ◌≤◌, nat_lt, min, Bool, true, false, ◌&&◌, List, [], ◌∷◌, ◌++◌, length, bytes_eq, Option, Some, None, IfSome, Ok, Err, refl, sym, subst, if◌then◌else◌, arith}
 use Rattle.std.specs.Prelude.{IsTrue}
 use Rattle.std.specs.List.{AllByRecursion, AllByRecursion-prop}
 use Rattle.std.proofs.lemmas.Bool.Decides.{nat_tests}
 use Rattle.std.proofs.Math.Logic.{∥∥₁_elim}
 use Rattle.std.proofs.Props.{props}
+use Rattle.dsm_base.specs.declared.setup.Setup.{Setup}
 use Rattle.dsm_syntax.specs.declared.errors.ProgErr.TheVariants as err
 use Rattle.dsm_syntax.specs.declared.errors.Which.{Which}
 use Rattle.dsm_syntax.specs.declared.errors.Which.TheVariants as which
@@ -23,7 +24,10 @@ use Rattle.dsm_check.specs.Bindings.{as_barrier, pieces_of}
 use Rattle.dsm_check.specs.Bodies.{Scope, Around, as_single, as_array, as_called, count_of, resolve_place, resolve, resolve_all, resolve_effect, optional, with_variable, resolve_variable, open_block, closing, as_one_lock, as_lock_array, resolve_lock, resolve_part, all_made, text_bytes, resolve_print, resolve_start, is_void, resolve_return, resolve_statement, resolve_statements, resolve_function, with_body, functions_of}
 use Rattle.dsm_check.specs.Programs.{Program, checked}
 use Rattle.dsm_check.specs.Accepted.{IsAccepted}
-use Rattle.dsm_check.specs.SemanticsWithin.{Extent, IsArrayBelow, IsCellWithin, IsArrayWithin, IsLocationWithin, IsWithin, AreWithin, IsOptionWithin, AreVariablesWithin, IsPartWithin, ArePartsWithin, most_bytes, IsPrintWithin, IsStartWithin, IsLockWithin, IsStatementWithin, AreStatementsWithin, AreFunctionsWithin}
+use Rattle.dsm_check.specs.declared.checked.Checked.{Checked}
+use Rattle.dsm_check.specs.CheckedViews.{program_of}
+use Rattle.dsm_check.specs.Setups.{IsSetupOf}
+use Rattle.dsm_semantics.specs.Within.{Extent, extent_of, extent_in, IsArrayBelow, IsCellWithin, IsArrayWithin, IsLocationWithin, IsWithin, AreWithin, IsOptionWithin, AreVariablesWithin, IsPartWithin, ArePartsWithin, most_bytes, IsPrintWithin, IsStartWithin, IsLockWithin, IsStatementWithin, AreStatementsWithin, AreFunctionsWithin}
 use Rattle.dsm_check.proofs.Successes.{then_in, each_keeps, both_true}
 
 ok_in : {A : Type 0} (P : A → Type 0) (a b : A) → ◌≡◌ {A = Check A} (Ok a) (Ok b) → P a → P b
@@ -537,10 +541,6 @@ module _ (extent : Extent) where
       let both = both_true (is_next names named) (is_numbered names) numbered in
       (fits names name named both.0 most, names_within names both.1 (fewer names name named most))
 
--- how many shared cells, locks and barriers a program has
-abbrev pub extent_in : Program → Extent
-extent_in program = record { cells = program.shared_cells; locks = program.locks; bars = program.barriers }
-
 accepted_items : (items : List t.Item) (program : Program) → IsTrue (is_numbered program.names) → IsTrue (is_sound_program items) → checked items ≡ Ok program
     → AreFunctionsWithin (extent_in program) program.functions
 accepted_items items program numbered sound h =
@@ -555,3 +555,13 @@ accepted_items items program numbered sound h =
 pub accepted_within : (program : Program) → IsTrue (is_numbered program.names) → ∥ IsAccepted program ∥₁ → AreFunctionsWithin (extent_in program) program.functions
 accepted_within program numbered accepted =
     ∥∥₁_elim accepted (functions_prop (extent_in program) program.functions) (λ (a : IsAccepted program). accepted_items a.0 program numbered a.1 a.2)
+
+pub functions_within : (checked : Checked) → AreFunctionsWithin (extent_in (program_of checked)) (program_of checked).functions
+functions_within checked = accepted_within (program_of checked) checked.names.numbered checked.accepted
+
+-- a setup of a program has as many of each
+pub functions_set_up : (checked : Checked) (count : ℕ) (setup : Setup) → IsSetupOf (program_of checked) count setup
+    → AreFunctionsWithin (extent_of setup) (program_of checked).functions
+functions_set_up checked count setup is =
+    let same : extent_in (program_of checked) ≡ extent_of setup = λ i. record { cells = sym is.cells i; locks = sym is.locks i; bars = sym is.bars i } in
+    subst (λ extent. AreFunctionsWithin extent (program_of checked).functions) same (functions_within checked)

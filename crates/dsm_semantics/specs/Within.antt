@@ -7,7 +7,8 @@ use Rattle.dsm_syntax.specs.declared.tree.Sharing.{Sharing}
 use Rattle.dsm_syntax.specs.Sound.{is_sound_string}
 use Rattle.dsm_check.specs.declared.resolved.Array.{Array}
 use Rattle.dsm_check.specs.Resolved as r
-use Rattle.dsm_check.specs.SemanticsItems.{Place, slot, cell, member, LockPlace, one_lock, lock_member, Loop, Item, evaluate, evaluate_all, load, store, and_then, or_else, choose, execute, run, declare, branch, round, decide, third_part, jump_back, ask, take_lock, give, cross, gather, print, Frame, State}
+use Rattle.dsm_check.specs.Programs.{Program}
+use Rattle.dsm_semantics.specs.States.{Place, slot, cell, member, LockPlace, one_lock, lock_member, Loop, Item, evaluate, evaluate_all, load, store, and_then, or_else, choose, execute, run, declare, branch, round, decide, third_part, jump_back, ask, take_lock, give, cross, gather, print, Frame, State}
 
 -- how many shared cells, locks and barriers there are
 pub record Extent : Type 0 where
@@ -15,8 +16,13 @@ pub record Extent : Type 0 where
   pub locks : ℕ
   pub bars : ℕ
 
+-- of a setup
 abbrev pub extent_of : Setup → Extent
 extent_of setup = record { cells = setup.cells; locks = setup.locks; bars = setup.bars }
+
+-- of a program
+abbrev pub extent_in : Program → Extent
+extent_in program = record { cells = program.shared_cells; locks = program.locks; bars = program.barriers }
 
 -- all members of an array are below a bound
 abbrev pub IsArrayBelow : ℕ → Array → Type 0

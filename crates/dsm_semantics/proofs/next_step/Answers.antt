@@ -1,5 +1,5 @@
-use Rattle.dsm_laws_threads.proofs.Next.{there_is_one, only_one}
-use Rattle.dsm_laws_threads.proofs.next_step.Goals as goal
+use Rattle.dsm_semantics.proofs.Next.{there_is_one, only_one}
+use Rattle.dsm_semantics.proofs.next_step.Goals as goal
 
 pub returns-clause-there_is_one : goal.returns-clause-there_is_one
 returns-clause-there_is_one c = there_is_one

@@ -3,12 +3,12 @@ use Rattle.std.proofs.Common.{◌≡◌, ℕ, ◌+◌, ◌<◌, ◌≤◌, nat_l
 use Rattle.dsm_syntax.specs.declared.tree.BinaryOp.{BinaryOp}
 use Rattle.dsm_syntax.specs.declared.tree.Sharing.{Sharing}
 use Rattle.dsm_check.specs.Resolved as r
-use Rattle.dsm_check.specs.SemanticsValues.{Outcome, holds, unary_value, step_value, binary_value, operator_of}
-use Rattle.dsm_check.specs.SemanticsSteps.{Move, goes, asks}
-use Rattle.dsm_check.specs.SemanticsItems.{Place, slot, cell, member, Use, Loop, Item, evaluate, evaluate_all, test_index, load, store, unary, step_by, binary, and_then, or_else, to_truth, choose, enter, discard, execute, run, declare, branch, round, decide, third_part, jump_back, leave, ask, take_lock, give, cross, gather, print, Frame, Life, going, ended, stopped, State, top, below}
-use Rattle.dsm_check.specs.SemanticsWeights.{location_weight, expression_weight, option_weight, start_weight, lock_weight, statement_weight, weight}
-use Rattle.dsm_check.specs.Semantics.{member_number, at_member, reaching, place_of, loads, load_at, stores, store_at, comes_to, second, assigning, returns, declaration, declaring, branching, starting, testing, stepping, after_loop, after_body, reaching_lock, lock_place_of, lock_line, lock_number, gathering, evaluation, evaluation_of_all, execution, execution_of_all, act, act_first, step_in, step}
-use Rattle.dsm_check.proofs.StepsSettle.{Falls}
+use Rattle.dsm_semantics.specs.Values.{Outcome, holds, unary_value, step_value, binary_value, operator_of}
+use Rattle.dsm_semantics.specs.Steps.{Move, goes, asks}
+use Rattle.dsm_semantics.specs.States.{Place, slot, cell, member, Use, Loop, Item, evaluate, evaluate_all, test_index, load, store, unary, step_by, binary, and_then, or_else, to_truth, choose, enter, discard, execute, run, declare, branch, round, decide, third_part, jump_back, leave, ask, take_lock, give, cross, gather, print, Frame, Life, going, ended, stopped, State, top, below}
+use Rattle.dsm_semantics.specs.Weights.{location_weight, expression_weight, option_weight, start_weight, lock_weight, statement_weight, weight}
+use Rattle.dsm_semantics.specs.Semantics.{member_number, at_member, reaching, place_of, loads, load_at, stores, store_at, comes_to, second, assigning, returns, declaration, declaring, branching, starting, testing, stepping, after_loop, after_body, reaching_lock, lock_place_of, lock_line, lock_number, gathering, evaluation, evaluation_of_all, execution, execution_of_all, act, act_first, step_in, step}
+use Rattle.dsm_semantics.proofs.StepsSettle.{Falls}
 
 abbrev pub weight_at : State → ℕ
 weight_at s = weight s.todo

@@ -1,7 +1,7 @@
 -- A machine whose steps without a label lessen a number comes to a step that wants something, after steps whose number doesn't matter.
 use Rattle.std.proofs.Common.{◌≡◌, ℕ, zero, suc, ◌<◌, ◌≤◌, ℤ, refl, sym, ap, ◌∙◌, subst, arith}
 use Rattle.dsm_base.specs.declared.label.Want.{Want}
-use Rattle.dsm_check.specs.SemanticsSteps.{Move, goes, asks, goes_on, settle, settled}
+use Rattle.dsm_semantics.specs.Steps.{Move, goes, asks, goes_on, settle, settled}
 
 -- a step without a label leaves less than n
 abbrev pub Falls : {S : Type 0} → (S → ℕ) → ℕ → Move S → Type 0

@@ -15,7 +15,7 @@ use Rattle.dsm_laws_runs.proofs.Families.{all_same}
 use Rattle.dsm_laws_runs.proofs.OwnPart.{other_thread, other_held, other_crossed}
 use Rattle.dsm_laws_runs.proofs.Swap.{same_state}
 use Rattle.dsm_laws_runs.specs.Swap.{clashes}
-use Rattle.dsm_laws_threads.specs.Commuting.{a_lock, a_barrier, a_cell, touched, TouchNothingInCommon, Commute}
+use Rattle.dsm_laws_runs.specs.Commuting.{a_lock, a_barrier, a_cell, touched, TouchNothingInCommon, Commute}
 
 -- What a label leaves of what another touches.
 

@@ -2,9 +2,9 @@
 use Rattle.std.specs.Prelude.{◌≡◌, ℕ, zero, suc, ℤ, List}
 use Rattle.dsm_base.specs.declared.label.Want.{Want}
 use Rattle.dsm_check.specs.Resolved as r
-use Rattle.dsm_check.specs.SemanticsItems.{State}
-use Rattle.dsm_check.specs.SemanticsSteps.{goes, asks}
-use Rattle.dsm_check.specs.Semantics.{step}
+use Rattle.dsm_semantics.specs.States.{State}
+use Rattle.dsm_semantics.specs.Steps.{goes, asks}
+use Rattle.dsm_semantics.specs.Semantics.{step}
 
 -- so many steps without a label lead from a state to another
 abbrev pub LeadTo : List r.Function → ℕ → State → State → Type 0

@@ -10,10 +10,10 @@ use Rattle.dsm_syntax.specs.declared.tree.BinaryOp.{BinaryOp}
 use Rattle.dsm_syntax.specs.declared.tree.Sharing.{Sharing}
 use Rattle.dsm_check.specs.declared.resolved.Array.{Array}
 use Rattle.dsm_check.specs.Resolved as r
-use Rattle.dsm_check.specs.SemanticsValues.{Outcome, holds, truth, unary_value, step_value, binary_value, operator_of}
-use Rattle.dsm_check.specs.SemanticsSteps.{Move, goes, asks, settled, want_of, next_of, answer_of}
-use Rattle.dsm_check.specs.SemanticsItems.{Place, slot, cell, member, LockPlace, one_lock, lock_member, Use, for_value, for_change, for_step_behind, Loop, Item, evaluate, evaluate_all, test_index, load, store, unary, step_by, binary, and_then, or_else, to_truth, choose, enter, discard, execute, run, declare, branch, round, decide, third_part, jump_back, leave, ask, take_lock, give, cross, gather, print, Frame, Life, going, ended, stopped, State, top, below, over}
-use Rattle.dsm_check.specs.SemanticsWeights.{weight}
+use Rattle.dsm_semantics.specs.Values.{Outcome, holds, truth, unary_value, step_value, binary_value, operator_of}
+use Rattle.dsm_semantics.specs.Steps.{Move, goes, asks, settled, want_of, next_of, answer_of}
+use Rattle.dsm_semantics.specs.States.{Place, slot, cell, member, LockPlace, one_lock, lock_member, Use, for_value, for_change, for_step_behind, Loop, Item, evaluate, evaluate_all, test_index, load, store, unary, step_by, binary, and_then, or_else, to_truth, choose, enter, discard, execute, run, declare, branch, round, decide, third_part, jump_back, leave, ask, take_lock, give, cross, gather, print, Frame, Life, going, ended, stopped, State, top, below, over}
+use Rattle.dsm_semantics.specs.Weights.{weight}
 
 -- How steps go. In what follows `s` is the state behind the item that is done.
 

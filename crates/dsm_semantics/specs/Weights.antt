@@ -1,7 +1,7 @@
 -- How many unlabelled steps there can be at most: each leaves less to be done, for jumps back, calls and returns have labels.
 use Rattle.std.specs.Prelude.{ℕ, ◌+◌, List, [], ◌∷◌, Option, Some, None}
 use Rattle.dsm_check.specs.Resolved as r
-use Rattle.dsm_check.specs.SemanticsItems.{Loop, Item, evaluate, evaluate_all, and_then, or_else, choose, execute, run, declare, branch, round, decide, third_part, gather}
+use Rattle.dsm_semantics.specs.States.{Loop, Item, evaluate, evaluate_all, and_then, or_else, choose, execute, run, declare, branch, round, decide, third_part, gather}
 
 abbrev mutual
   pub location_weight : r.Location → ℕ
