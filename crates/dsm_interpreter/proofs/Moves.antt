@@ -2,12 +2,12 @@
 use Rattle.std.proofs.Common.{◌≡◌, ◌<◌, List, [], Option, Some, None, refl, sym, ap, ◌∙◌, subst}
 use Rattle.dsm_base.specs.declared.label.Want.{Want}
 use Rattle.dsm_check.specs.Resolved as r
-use Rattle.dsm_semantics.specs.Steps.{Move, goes, asks, want_of}
+use Rattle.dsm_base.specs.Steps.{Move, goes, asks, want_of}
 use Rattle.dsm_semantics.specs.States.{State}
 use Rattle.dsm_semantics.specs.Weights.{weight}
 use Rattle.dsm_semantics.specs.Within.{Extent, IsStateWithin}
 use Rattle.dsm_semantics.specs.Semantics.{step, ready}
-use Rattle.dsm_semantics.proofs.StepsSettle.{Falls, settled_goes, settled_asks}
+use Rattle.dsm_base.proofs.StepsSettle.{Falls, settled_goes, settled_asks}
 use Rattle.dsm_semantics.proofs.Falls.{weight_at, step_falls}
 use Rattle.dsm_semantics.proofs.Within.{goes_within}
 use Rattle.dsm_interpreter.specs.Threads.{Makes}

@@ -1,8 +1,7 @@
 //! A function that is under way.
 
 use crate::item::Item;
-use crate::stack::Stack;
-use dsm_base::Fault;
+use dsm_base::{Fault, Stack};
 
 /// A function that is under way: what remains to be done of it, the values that its expressions have
 /// left, and those of its slots.

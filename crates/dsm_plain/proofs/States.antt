@@ -8,7 +8,7 @@ use Rattle.dsm_base.specs.Family.{update}
 use Rattle.dsm_check.specs.Resolved as r
 use Rattle.dsm_semantics.specs.Semantics.{step, ready}
 use Rattle.dsm_semantics.specs.States.{State}
-use Rattle.dsm_semantics.proofs.StepsSettle.{settled_stays, settled_reaches}
+use Rattle.dsm_base.proofs.StepsSettle.{settled_stays, settled_reaches}
 use Rattle.dsm_semantics.proofs.Falls.{weight_at, step_falls}
 use Rattle.dsm_interpreter.specs.declared.thread.PlainThread.{PlainThread}
 use Rattle.dsm_interpreter.specs.Threads.{state_of}

@@ -3,7 +3,7 @@ use Rattle.std.specs.Prelude.{ℕ, ◌<◌}
 use Rattle.dsm_base.specs.declared.label.Label.{Label}
 use Rattle.dsm_base.specs.declared.label.Want.{Want}
 use Rattle.dsm_base.specs.Threads.{Completes}
-use Rattle.dsm_semantics.specs.Steps.{answer_of}
+use Rattle.dsm_base.specs.Steps.{answer_of}
 use Rattle.dsm_interpreter.specs.Lines.{IsLine}
 
 -- a store goes to one of so many cells

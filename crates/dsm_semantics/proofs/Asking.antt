@@ -7,11 +7,11 @@ use Rattle.dsm_base.specs.declared.label.Want.{Want}
 use Rattle.dsm_base.specs.declared.label.Label.{Label}
 use Rattle.dsm_base.specs.Threads.{AsksFirst, Completes, state_after}
 use Rattle.dsm_check.specs.Resolved as r
-use Rattle.dsm_semantics.specs.Steps.{Move, goes, asks, want_of, next_of}
-use Rattle.dsm_semantics.specs.States.{Life, ended, stopped, State, over}
+use Rattle.dsm_base.specs.Steps.{Move, goes, asks, want_of, next_of, Over, ended, stopped}
+use Rattle.dsm_semantics.specs.States.{State, over}
 use Rattle.dsm_semantics.specs.Semantics.{step, ready, completed, program_semantics, first_state}
-use Rattle.dsm_semantics.proofs.StepsSettle.{settled_keeps, settled_asks}
-use Rattle.dsm_semantics.proofs.Falls.{weight_at, step_falls}
+use Rattle.dsm_base.proofs.StepsSettle.{settled_keeps, settled_asks}
+use Rattle.dsm_semantics.proofs.Falls.{weight_at, step_falls, ready_over}
 use Rattle.dsm_semantics.proofs.Waiting.{HasNoWait, WaitsFor, Leaves, Keeps, step_keeps}
 
 module _ (functions : List r.Function) where
@@ -129,7 +129,7 @@ module _ (functions : List r.Function) where
   comes_asking s (Want.Cross bar) after is keeps answer label c = absurd (keeps (pos 0))
   comes_asking s Want.Line after is keeps answer label c = free_comes s label (Label.Line c.0) _ c.1 tt (next_is s _ after is (pos 0)) (keeps (pos 0))
   comes_asking s Want.End after is keeps answer label c = free_comes s label Label.End _ c tt refl (tt, tt)
-  comes_asking s (Want.Stop fault line) after is keeps answer label c = absurd c
+  comes_asking s (Want.Stop fault line) after is keeps answer label c = free_comes s label (Label.Stop fault line) _ c tt refl (tt, tt)
   comes_asking s Want.Over after is keeps answer label c = absurd c
 
   comes : (s : State) (answer : ℤ) (label : Label) → Stands s → Completes (want s) answer label → Comes s label
@@ -189,8 +189,8 @@ module _ (functions : List r.Function) where
       of (to_bar b e waits) = let same : Want.Cross b ≡ Want.Cross bar = sym (waits_want _ _ waits) ∙ is in cc (e, same)
 
   -- a thread that is over wants nothing more
-  over_wants : (s : State) (life : Life) → step functions (over s life) ≡ asks Want.Over (λ answer. over s life) → want (ready functions (over s life)) ≡ Want.Over
-  over_wants s life is = ap want (settled_asks (step functions) weight_at (step_falls functions) (over s life) Want.Over (λ answer. over s life) is) ∙ ap want_of is
+  over_wants : (s : State) (way : Over) → want (ready functions (over s way)) ≡ Want.Over
+  over_wants s way = ap want (ready_over functions s way)
 
   module _ (main private_cells procs me : ℕ) where
     abbrev first : State
@@ -211,6 +211,6 @@ module _ (functions : List r.Function) where
       crosses = λ labels bar is. crosses_next (reached labels) bar (reached_stands labels) is;
       took = λ labels answer label lock mode c is. was_ask (reached labels) answer label lock mode (reached_stands labels) c is;
       crossed = λ labels answer label bar c is. was_arrival (reached labels) answer label bar (reached_stands labels) c is;
-      stops = λ labels fault line. over_wants (reached labels) (stopped fault line) refl;
-      ends = λ labels. over_wants (reached labels) ended refl;
+      stops = λ labels fault line. over_wants (reached labels) (stopped fault line);
+      ends = λ labels. over_wants (reached labels) ended;
     }

@@ -1,14 +1,15 @@
 -- Steps without a label end: each leaves less to be done.
-use Rattle.std.proofs.Common.{◌≡◌, ℕ, ◌+◌, ◌<◌, ◌≤◌, nat_lt, ℤ, pos, Bool, true, false, cond, List, [], ◌∷◌, Option, Some, None, Ok, Err, length, arith}
+use Rattle.std.proofs.Common.{◌≡◌, ℕ, ◌+◌, ◌<◌, ◌≤◌, nat_lt, ℤ, pos, Bool, true, false, cond, List, [], ◌∷◌, Option, Some, None, Ok, Err, length, arith, refl}
+use Rattle.dsm_base.specs.declared.label.Want.{Want}
 use Rattle.dsm_syntax.specs.declared.tree.BinaryOp.{BinaryOp}
 use Rattle.dsm_syntax.specs.declared.tree.Sharing.{Sharing}
 use Rattle.dsm_check.specs.Resolved as r
 use Rattle.dsm_semantics.specs.Values.{Outcome, holds, unary_value, step_value, binary_value, operator_of}
-use Rattle.dsm_semantics.specs.Steps.{Move, goes, asks}
-use Rattle.dsm_semantics.specs.States.{Place, slot, cell, member, Use, Loop, Item, evaluate, evaluate_all, test_index, load, store, unary, step_by, binary, and_then, or_else, to_truth, choose, enter, discard, execute, run, declare, branch, round, decide, third_part, jump_back, leave, ask, take_lock, give, cross, gather, print, Frame, Life, going, ended, stopped, State, top, below}
+use Rattle.dsm_base.specs.Steps.{Move, goes, asks, Over}
+use Rattle.dsm_semantics.specs.States.{Place, slot, cell, member, Use, Loop, Item, evaluate, evaluate_all, test_index, load, store, unary, step_by, binary, and_then, or_else, to_truth, choose, enter, discard, execute, run, declare, branch, round, decide, third_part, jump_back, leave, ask, take_lock, give, cross, gather, print, Frame, State, top, below, over}
 use Rattle.dsm_semantics.specs.Weights.{location_weight, expression_weight, option_weight, start_weight, lock_weight, statement_weight, weight}
-use Rattle.dsm_semantics.specs.Semantics.{member_number, at_member, reaching, place_of, loads, load_at, stores, store_at, comes_to, second, assigning, returns, declaration, declaring, branching, starting, testing, stepping, after_loop, after_body, reaching_lock, lock_place_of, lock_line, lock_number, gathering, evaluation, evaluation_of_all, execution, execution_of_all, act, act_first, step_in, step}
-use Rattle.dsm_semantics.proofs.StepsSettle.{Falls}
+use Rattle.dsm_semantics.specs.Semantics.{member_number, at_member, reaching, place_of, loads, load_at, stores, store_at, comes_to, second, assigning, returns, declaration, declaring, branching, starting, testing, stepping, after_loop, after_body, reaching_lock, lock_place_of, lock_line, lock_number, gathering, evaluation, evaluation_of_all, execution, execution_of_all, act, act_first, step_in, step, ready}
+use Rattle.dsm_base.proofs.StepsSettle.{Falls, settled_asks}
 
 abbrev pub weight_at : State → ℕ
 weight_at s = weight s.todo
@@ -203,10 +204,13 @@ first_falls : (functions : List r.Function) (s : State) (todo : List Item) → L
 first_falls functions s [] = less_return _ s (pos 0) s.outer
 first_falls functions s (item ∷ k) = act_falls functions (record s { todo = k }) item
 
-falls_in : (functions : List r.Function) (s : State) (life : Life) → Less (weight s.todo) (step_in functions s life)
-falls_in functions s going = first_falls functions s s.todo
-falls_in functions s ended = tt
-falls_in functions s (stopped fault line) = tt
+falls_in : (functions : List r.Function) (s : State) (life : Option Over) → Less (weight s.todo) (step_in functions s life)
+falls_in functions s None = first_falls functions s s.todo
+falls_in functions s (Some way) = tt
 
 pub step_falls : (functions : List r.Function) (s : State) → Falls weight_at (weight_at s) (step functions s)
 step_falls functions s = falls_in functions s s.life
+
+-- a thread that is over stays as it is
+pub ready_over : (functions : List r.Function) (s : State) (way : Over) → ready functions (over s way) ≡ over s way
+ready_over functions s way = settled_asks (step functions) weight_at (step_falls functions) (over s way) Want.Over (λ answer. over s way) refl

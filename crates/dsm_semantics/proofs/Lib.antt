@@ -1,7 +1,7 @@
-pub mod StepsSettle
 pub mod Falls
 pub mod Waiting
 pub mod Asking
 pub mod Within
 pub mod Accepted
+pub mod Finishing
 pub mod Next

@@ -4,10 +4,10 @@ use Rattle.std.proofs.Common.{refl, sym, ◌∙◌, subst}
 use Rattle.dsm_base.specs.declared.label.Want.{Want}
 use Rattle.dsm_check.specs.Resolved as r
 use Rattle.dsm_semantics.specs.States.{State}
-use Rattle.dsm_semantics.specs.Steps.{Move, goes, asks, goes_on, settle, settled, want_of}
+use Rattle.dsm_base.specs.Steps.{Move, goes, asks, goes_on, settle, settled, want_of}
 use Rattle.dsm_semantics.specs.Weights.{weight}
 use Rattle.dsm_semantics.specs.Semantics.{step, ready}
-use Rattle.dsm_semantics.proofs.StepsSettle.{Asks, settled_reaches}
+use Rattle.dsm_base.proofs.StepsSettle.{Asks, settled_reaches}
 use Rattle.dsm_semantics.proofs.Falls.{weight_at, step_falls}
 use Rattle.dsm_semantics.specs.Next.{LeadTo, IsNext}
 

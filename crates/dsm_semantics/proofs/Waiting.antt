@@ -7,8 +7,8 @@ use Rattle.dsm_syntax.specs.declared.tree.BinaryOp.{BinaryOp}
 use Rattle.dsm_syntax.specs.declared.tree.Sharing.{Sharing}
 use Rattle.dsm_check.specs.Resolved as r
 use Rattle.dsm_semantics.specs.Values.{Outcome, holds, unary_value, step_value, binary_value, operator_of}
-use Rattle.dsm_semantics.specs.Steps.{Move, goes, asks}
-use Rattle.dsm_semantics.specs.States.{Place, slot, cell, member, LockPlace, Use, Loop, Item, evaluate, evaluate_all, test_index, load, store, unary, step_by, binary, and_then, or_else, to_truth, choose, enter, discard, execute, run, declare, branch, round, decide, third_part, jump_back, leave, ask, take_lock, give, cross, gather, print, Frame, Life, going, ended, stopped, State, top, below}
+use Rattle.dsm_base.specs.Steps.{Move, goes, asks, Over}
+use Rattle.dsm_semantics.specs.States.{Place, slot, cell, member, LockPlace, Use, Loop, Item, evaluate, evaluate_all, test_index, load, store, unary, step_by, binary, and_then, or_else, to_truth, choose, enter, discard, execute, run, declare, branch, round, decide, third_part, jump_back, leave, ask, take_lock, give, cross, gather, print, Frame, State, top, below}
 use Rattle.dsm_semantics.specs.Semantics.{member_number, at_member, reaching, place_of, loads, load_at, stores, store_at, comes_to, second, assigning, returns, declaration, declaring, branching, starting, testing, stepping, after_loop, after_body, reaching_lock, lock_line, lock_number, below_index, gathering, evaluation, evaluation_of_all, execution, execution_of_all, act, act_first, step_in, step}
 
 -- States in which no take and no crossing is to be done.
@@ -154,7 +154,7 @@ module _ (functions : List r.Function) where
   keeps_declaration s [] p = p
   keeps_declaration s (variable ∷ rest) p = keeps_declaring (record s { todo = declare rest ∷ s.todo }) variable.slot variable.initial ((tt, p.0), p.1)
 
-  keeps_execution : (s : State) (statement : r.Statement) → HasNoWait s → s.life ≡ going → Keeps (execution s statement)
+  keeps_execution : (s : State) (statement : r.Statement) → HasNoWait s → s.life ≡ None → Keeps (execution s statement)
   keeps_execution s (r.block body) p going_on = ((tt, p.0), p.1)
   keeps_execution s r.empty p going_on = p
   keeps_execution s (r.variables variables) p going_on = ((tt, p.0), p.1)
@@ -209,11 +209,11 @@ module _ (functions : List r.Function) where
       free = λ answer. p;
     }
 
-  keeps_ask : (s : State) (lock : LockPlace) (mode : Mode) → HasNoWait s → s.life ≡ going → Keeps (act functions s (ask lock mode))
+  keeps_ask : (s : State) (lock : LockPlace) (mode : Mode) → HasNoWait s → s.life ≡ None → Keeps (act functions s (ask lock mode))
   keeps_ask s lock mode p going_on =
       asks_member s lock mode p (lock_number lock s.operands) (ap (step_in functions (record s { todo = take_lock lock mode ∷ s.todo })) going_on)
 
-  keeps_act : (s : State) (item : Item) → HasNoWait s → IsNoWait item → s.life ≡ going → Keeps (act functions s item)
+  keeps_act : (s : State) (item : Item) → HasNoWait s → IsNoWait item → s.life ≡ None → Keeps (act functions s item)
   keeps_act s (evaluate e) p i going_on = keeps_evaluation s e p
   keeps_act s (evaluate_all arguments) p i going_on = keeps_all s arguments p
   keeps_act s (test_index array line) p i going_on = keeps_member s line (member_number array (top s.operands)) _ p (λ number. p)
@@ -244,14 +244,13 @@ module _ (functions : List r.Function) where
   keeps_act s (gather parts) p i going_on = keeps_gathering s parts p
   keeps_act s (print parts) p i going_on = λ answer. p
 
-  keeps_first : (s : State) (todo : List Item) → HasNoWait s → AreNoWaits todo → s.life ≡ going → Keeps (act_first functions s todo)
+  keeps_first : (s : State) (todo : List Item) → HasNoWait s → AreNoWaits todo → s.life ≡ None → Keeps (act_first functions s todo)
   keeps_first s [] p h going_on = keeps_returns s (pos 0) s.outer p p.1
   keeps_first s (item ∷ k) p h going_on = keeps_act (record s { todo = k }) item (h.1, p.1) h.0 going_on
 
-  keeps_in : (s : State) (life : Life) → s.life ≡ life → HasNoWait s → Keeps (step_in functions s life)
-  keeps_in s going is p = keeps_first s s.todo p p.0 is
-  keeps_in s ended is p = λ answer. p
-  keeps_in s (stopped fault line) is p = λ answer. p
+  keeps_in : (s : State) (life : Option Over) → s.life ≡ life → HasNoWait s → Keeps (step_in functions s life)
+  keeps_in s None is p = keeps_first s s.todo p p.0 is
+  keeps_in s (Some way) is p = λ answer. p
 
   pub step_keeps : (s : State) → HasNoWait s → Keeps (step functions s)
   step_keeps s p = keeps_in s s.life refl p

@@ -12,11 +12,11 @@ use Rattle.dsm_syntax.specs.declared.tree.Sharing.{Sharing}
 use Rattle.dsm_check.specs.declared.resolved.Array.{Array}
 use Rattle.dsm_check.specs.Resolved as r
 use Rattle.dsm_semantics.specs.Values.{Outcome, holds, unary_value, step_value, binary_value, operator_of}
-use Rattle.dsm_semantics.specs.Steps.{Move, goes, asks, want_of, next_of}
-use Rattle.dsm_semantics.specs.States.{Place, slot, cell, member, LockPlace, one_lock, lock_member, Use, Loop, Item, evaluate, evaluate_all, test_index, load, store, unary, step_by, binary, and_then, or_else, to_truth, choose, enter, discard, execute, run, declare, branch, round, decide, third_part, jump_back, leave, ask, take_lock, give, cross, gather, print, Frame, Life, going, ended, stopped, State, top, below}
+use Rattle.dsm_base.specs.Steps.{Move, goes, asks, want_of, next_of, Over}
+use Rattle.dsm_semantics.specs.States.{Place, slot, cell, member, LockPlace, one_lock, lock_member, Use, Loop, Item, evaluate, evaluate_all, test_index, load, store, unary, step_by, binary, and_then, or_else, to_truth, choose, enter, discard, execute, run, declare, branch, round, decide, third_part, jump_back, leave, ask, take_lock, give, cross, gather, print, Frame, State, top, below}
 use Rattle.dsm_semantics.specs.Within.{Extent, extent_of, IsArrayBelow, IsCellWithin, IsArrayWithin, IsLocationWithin, IsWithin, AreWithin, IsOptionWithin, AreVariablesWithin, ArePartsWithin, IsStartWithin, IsLockWithin, IsStatementWithin, AreStatementsWithin, AreFunctionsWithin, NamesWithin, IsPlaceWithin, IsLockPlaceWithin, IsOtherWithin, IsLoopWithin, IsItemWithin, AreItemsWithin, AreFramesWithin, IsStateWithin}
 use Rattle.dsm_semantics.specs.Semantics.{numbered, entered, faults, member_number, at_member, reaching, place_of, loads, load_at, stores, store_at, comes_to, second, assigning, entering, returns, declaration, declaring, branching, starting, testing, stepping, after_loop, after_body, reaching_lock, lock_place_of, lock_line, lock_number, gathering, evaluation, evaluation_of_all, execution, execution_of_all, act, act_first, step_in, step, ready, completed, program_semantics, first_state}
-use Rattle.dsm_semantics.proofs.StepsSettle.{settled_keeps}
+use Rattle.dsm_base.proofs.StepsSettle.{settled_keeps}
 use Rattle.dsm_semantics.proofs.Falls.{weight_at, step_falls}
 
 if_found : (test : Bool) (number found : ℕ) → cond test (Some number) None ≡ Some found → (test ≡ true) × (number ≡ found)
@@ -261,10 +261,9 @@ module _ (extent : Extent) (functions : List r.Function) (all : AreFunctionsWith
   within_first s [] p h = within_returns s (pos 0) s.outer p p.1
   within_first s (item ∷ k) p h = within_act (record s { todo = k }) item (h.1, p.1) h.0
 
-  within_in : (s : State) (life : Life) → IsStateWithin extent s → KeepsWithin (step_in functions s life)
-  within_in s going p = within_first s s.todo p p.0
-  within_in s ended p = (tt, λ answer. p)
-  within_in s (stopped fault line) p = (tt, λ answer. p)
+  within_in : (s : State) (life : Option Over) → IsStateWithin extent s → KeepsWithin (step_in functions s life)
+  within_in s None p = within_first s s.todo p p.0
+  within_in s (Some way) p = (tt, λ answer. p)
 
   pub step_within : (s : State) → IsStateWithin extent s → KeepsWithin (step functions s)
   step_within s p = within_in s s.life p

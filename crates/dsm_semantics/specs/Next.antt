@@ -3,7 +3,7 @@ use Rattle.std.specs.Prelude.{◌≡◌, ℕ, zero, suc, ℤ, List}
 use Rattle.dsm_base.specs.declared.label.Want.{Want}
 use Rattle.dsm_check.specs.Resolved as r
 use Rattle.dsm_semantics.specs.States.{State}
-use Rattle.dsm_semantics.specs.Steps.{goes, asks}
+use Rattle.dsm_base.specs.Steps.{goes, asks}
 use Rattle.dsm_semantics.specs.Semantics.{step}
 
 -- so many steps without a label lead from a state to another

@@ -11,8 +11,9 @@ use Rattle.dsm_syntax.specs.declared.tree.Sharing.{Sharing}
 use Rattle.dsm_check.specs.declared.resolved.Array.{Array}
 use Rattle.dsm_check.specs.Resolved as r
 use Rattle.dsm_semantics.specs.Values.{Outcome, holds, truth, unary_value, step_value, binary_value, operator_of}
-use Rattle.dsm_semantics.specs.Steps.{Move, goes, asks, settled, want_of, next_of, answer_of}
-use Rattle.dsm_semantics.specs.States.{Place, slot, cell, member, LockPlace, one_lock, lock_member, Use, for_value, for_change, for_step_behind, Loop, Item, evaluate, evaluate_all, test_index, load, store, unary, step_by, binary, and_then, or_else, to_truth, choose, enter, discard, execute, run, declare, branch, round, decide, third_part, jump_back, leave, ask, take_lock, give, cross, gather, print, Frame, Life, going, ended, stopped, State, top, below, over}
+use Rattle.dsm_base.specs.Steps as steps
+use Rattle.dsm_base.specs.Steps.{Move, goes, asks, Over, Machine, semantics_of}
+use Rattle.dsm_semantics.specs.States.{Place, slot, cell, member, LockPlace, one_lock, lock_member, Use, for_value, for_change, for_step_behind, Loop, Item, evaluate, evaluate_all, test_index, load, store, unary, step_by, binary, and_then, or_else, to_truth, choose, enter, discard, execute, run, declare, branch, round, decide, third_part, jump_back, leave, ask, take_lock, give, cross, gather, print, Frame, State, top, below, over}
 use Rattle.dsm_semantics.specs.Weights.{weight}
 
 -- How steps go. In what follows `s` is the state behind the item that is done.
@@ -298,37 +299,42 @@ abbrev pub act_first : List r.Function → State → List Item → Move State
 act_first functions s [] = returns s (pos 0) s.outer
 act_first functions s (item ∷ k) = act functions (record s { todo = k }) item
 
-abbrev pub step_in : List r.Function → State → Life → Move State
-step_in functions s going = act_first functions s s.todo
-step_in functions s ended = asks Want.Over (λ answer. s)
-step_in functions s (stopped fault line) = asks Want.Over (λ answer. s)
+-- one that is over wants nothing more
+abbrev pub step_in : List r.Function → State → Option Over → Move State
+step_in functions s None = act_first functions s s.todo
+step_in functions s (Some way) = asks Want.Over (λ answer. s)
 
+-- a step of a state
 abbrev pub step : List r.Function → State → Move State
 step functions s = step_in functions s s.life
 
 -- Threads.
-
--- the state right before the next labelled step
-abbrev pub ready : List r.Function → State → State
-ready functions s = settled (step functions) (λ t. weight t.todo) s
-
--- the state right after a label; a stop and an end make the thread over
-abbrev pub completed : List r.Function → State → Label → State
-completed functions s (Label.Stop fault line) = over s (stopped fault line)
-completed functions s Label.End = over s ended
-completed functions s label = next_of s (answer_of label) (step functions s)
 
 -- the text of a line that is wanted
 abbrev pub text_at : List Item → List ℤ → List ℕ
 text_at (print parts ∷ k) operands = parts_text parts (reverse (take (values_in parts) operands))
 text_at _ operands = []
 
-abbrev pub program_semantics : List r.Function → Semantics State
-program_semantics functions = record {
-  want = λ s. want_of (step functions s);
+-- the machine that each thread of a program is; a step without a label leaves less to be done
+abbrev pub machine : List r.Function → Machine State
+machine functions = record {
+  step = step functions;
+  weight = λ s. weight s.todo;
   text = λ s. text_at s.todo s.operands;
-  after = λ s label. ready functions (completed functions s label);
+  over = over;
 }
+
+-- the state right before the next labelled step
+abbrev pub ready : List r.Function → State → State
+ready functions s = steps.ready (machine functions) s
+
+-- the state right after a label, before the steps without a label that come next
+abbrev pub completed : List r.Function → State → Label → State
+completed functions s label = steps.completed (machine functions) s label
+
+-- what threads of a program do
+abbrev pub program_semantics : List r.Function → Semantics State
+program_semantics functions = semantics_of (machine functions)
 
 -- the thread of a processor before its first step: main is the function of a number, with the processor and how many there are as its arguments
 abbrev pub started : r.Function → ℕ → ℕ → ℕ → State
@@ -338,8 +344,9 @@ started main private_cells procs me = record {
   slots = new_slots main (pos me ∷ pos procs ∷ []);
   outer = [];
   own = replicate private_cells (pos 0);
-  life = going;
+  life = None;
 }
 
+-- the same, right before its first labelled step
 abbrev pub first_state : List r.Function → ℕ → ℕ → ℕ → ℕ → State
 first_state functions main private_cells procs me = ready functions (started (numbered (slice_get functions main)) private_cells procs me)

@@ -1,9 +1,10 @@
 -- What a thread of a program has to know to go on. What remains to be done is a list of items.
-use Rattle.std.specs.Prelude.{ℕ, ℤ, pos, List, [], ◌∷◌, Option}
+use Rattle.std.specs.Prelude.{ℕ, ℤ, pos, List, [], ◌∷◌, Option, Some, None}
 use Rattle.dsm_base.specs.declared.names.Lock.{Lock}
 use Rattle.dsm_base.specs.declared.names.Bar.{Bar}
 use Rattle.dsm_base.specs.declared.names.Mode.{Mode}
-use Rattle.dsm_base.specs.declared.names.Fault.{Fault}
+use Rattle.dsm_base.specs.declared.label.Ending.{Ending}
+use Rattle.dsm_base.specs.Steps.{Over, ended, stopped}
 use Rattle.dsm_syntax.specs.declared.tree.UnaryOp.{UnaryOp}
 use Rattle.dsm_syntax.specs.declared.tree.StepOp.{StepOp}
 use Rattle.dsm_syntax.specs.declared.tree.BinaryOp.{BinaryOp}
@@ -34,6 +35,7 @@ pub record Loop : Type 0 where
   pub step : Option r.Expression
   pub body : r.Statement
 
+-- what remains to be done
 pub data Item : Type 0 where
   evaluate : r.Expression → Item  -- leaves its value on top
   evaluate_all : r.Expressions → Item
@@ -71,30 +73,35 @@ pub record Frame : Type 0 where
   pub operands : List ℤ
   pub slots : List ℤ
 
-pub data Life : Type 0 where
-  going : Life
-  ended : Life
-  stopped : Fault → ℕ → Life
-
 -- of the innermost function: what remains to be done, the values that expressions have left (the last one first), and the values of its slots;
--- the functions that wait for it, the innermost first; and the private cells
+-- the functions that wait for it, the innermost first; the private cells; and how the thread came to be over, if it is
 pub record State : Type 0 where
   pub todo : List Item
   pub operands : List ℤ
   pub slots : List ℤ
   pub outer : List Frame
   pub own : List ℤ
-  pub life : Life
+  pub life : Option Over
 
 -- the value on top, and those below it; where there is none, which never comes, it counts as 0
 abbrev pub top : List ℤ → ℤ
 top [] = pos 0
 top (v ∷ rest) = v
 
+-- the values below the one on top
 abbrev pub below : List ℤ → List ℤ
 below [] = []
 below (v ∷ rest) = rest
 
 -- the thread is over; only its private cells are left
-abbrev pub over : State → Life → State
-over s life = record { todo = []; operands = []; slots = []; outer = []; own = s.own; life = life }
+abbrev pub over : State → Over → State
+over s way = record { todo = []; operands = []; slots = []; outer = []; own = s.own; life = Some way }
+
+-- how a thread came to be over, if it is
+abbrev pub ending_in : Option Over → Option Ending
+ending_in None = None
+ending_in (Some ended) = Some Ending.Ended
+ending_in (Some (stopped fault line)) = Some Ending.Stopped
+
+abbrev pub ending_of : State → Option Ending
+ending_of s = ending_in s.life

@@ -2,9 +2,9 @@ use Rattle.std.proofs.Common.{Result, Ok, Err, OnOk, sym, ap, ◌∙◌, map, w6
 use Rattle.std.proofs.lemmas.Int.{to_z-of_z}
 use Rattle.dsm_base.specs.declared.errors.MemFault.{MemFault}
 use Rattle.dsm_check.specs.Views.{view_function}
-use Rattle.dsm_interpreter.specs.Finished.{all_finished}
+use Rattle.dsm_semantics.specs.Finished.{all_finished}
 use Rattle.dsm_interpreter.specs.Threads.{state_of}
-use Rattle.dsm_interpreter.proofs.Finishing.{finished_is}
+use Rattle.dsm_semantics.proofs.Finishing.{finished_is}
 use Rattle.dsm_interpreter.proofs.thread.PlainThread.done.Goals as goal
 
 on_ok : {A B : Type 0} (result : Result (Unit {0}) MemFault) → OnOk result A → (A → B) → OnOk result B

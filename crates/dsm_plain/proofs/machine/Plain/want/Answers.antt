@@ -2,7 +2,7 @@ use Rattle.std.proofs.Common.{◌<◌, ◌∙◌, List, ap, sym, subst}
 use Rattle.dsm_check.specs.CheckedViews.{program_of}
 use Rattle.dsm_semantics.specs.Semantics.{step}
 use Rattle.dsm_semantics.specs.States.{State}
-use Rattle.dsm_semantics.specs.Steps.{want_of}
+use Rattle.dsm_base.specs.Steps.{want_of}
 use Rattle.dsm_semantics.specs.Within.{extent_of, IsStateWithin}
 use Rattle.dsm_base.specs.Plain.{PlainState}
 use Rattle.dsm_interpreter.specs.Threads.{state_of}

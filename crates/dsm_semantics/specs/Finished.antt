@@ -1,8 +1,8 @@
 -- What a labelled step leaves, by the item that it is the step of.
 use Rattle.std.specs.Prelude.{ℤ, pos, List, [], ◌∷◌, drop, slice_get}
 use Rattle.dsm_check.specs.Resolved as r
-use Rattle.dsm_semantics.specs.Steps.{next_of}
-use Rattle.dsm_semantics.specs.States.{Place, slot, cell, member, Use, Item, load, store, enter, execute, round, jump_back, leave, ask, take_lock, give, cross, print, Frame, State, top, below, over, ended}
+use Rattle.dsm_base.specs.Steps.{next_of, ended}
+use Rattle.dsm_semantics.specs.States.{Place, slot, cell, member, Use, Item, load, store, enter, execute, round, jump_back, leave, ask, take_lock, give, cross, print, Frame, State, top, below, over}
 use Rattle.dsm_semantics.specs.Semantics.{loaded, numbered, entered, returns, below_index, values_in}
 
 abbrev pub load_finished : State → Use → Place → ℤ → State
