@@ -1,1 +1,4 @@
+pub mod Families
+pub mod StepsSettle
+pub mod Tops
 pub mod Setups
