@@ -10,9 +10,9 @@ ghost use Rattle.dsm_semantics.specs.States.{run, over};
 ghost use Rattle.dsm_semantics.specs.Finished.{return_finished};
 ghost use Rattle.dsm_interpreter.specs.Threads.{Becomes, Steps, callee_of, frame_of, life_of};
 
+use crate::execution::Execution;
 use crate::frame::{Frame, Life};
 use crate::item::Item;
-use crate::execution::Execution;
 use dsm_base::{Fault, MemFault, Stack, Want};
 use dsm_check::{Function, Statement};
 use std::alloc::Global;
@@ -67,8 +67,11 @@ pub fn new_frame<'a>(
     arguments: &[i64],
 ) -> Result<Frame<'a>, MemFault>
     ensures { IfOk result (λ frame.
-        frame_of frame ≡ record { todo = run (callee_of callee.entry).body ∷ []; operands = [];
-        slots = Semantics.new_slots (callee_of callee.entry) arguments.now }) }
+        frame_of frame ≡ record {
+          todo = run (callee_of callee.entry).body ∷ [];
+          operands = [];
+          slots = Semantics.new_slots (callee_of callee.entry) arguments.now;
+        }) }
 {
     let mut todo = Stack::new(alloc);
     todo.push(Item::Run(callee.body))?;

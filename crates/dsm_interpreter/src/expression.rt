@@ -8,10 +8,10 @@ ghost use Rattle.dsm_semantics.specs.Semantics;
 ghost use Rattle.dsm_check.specs.Resolved as r;
 ghost use Rattle.dsm_interpreter.specs.Threads.{Becomes, Steps, state_in};
 
-use crate::item::{Item, Use};
-use crate::operands::{pop_value, top_value, value_below};
-use crate::location::place;
 use crate::execution::Execution;
+use crate::item::{Item, Use};
+use crate::location::place;
+use crate::operands::{pop_value, top_value, value_below};
 use crate::value::{binary_value, step_value, unary_value};
 use dsm_base::{Fault, MemFault, Want};
 use dsm_check::{Expression, Location};
@@ -107,8 +107,10 @@ impl<'a> Execution<'a> {
         e: &'a Expression,
     ) -> Result<(), MemFault>
         ensures { OnOk result (Becomes self.old self.new (λ s.
-            record s { todo = Semantics.assigning (Values.operator_of op) line
-            (Semantics.place_of (view_location location.now)) (view e.now) s.todo })) }
+            record s {
+              todo = Semantics.assigning (Values.operator_of op) line
+                  (Semantics.place_of (view_location location.now)) (view e.now) s.todo;
+            })) }
     {
         let place = place(location);
         self.frame.todo.push(Item::Store(place))?;

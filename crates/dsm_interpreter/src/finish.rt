@@ -6,9 +6,9 @@ ghost use Rattle.dsm_semantics.specs.Semantics;
 ghost use Rattle.dsm_semantics.specs.Finished.{all_finished, finished, load_finished, store_finished, statement_finished};
 ghost use Rattle.dsm_interpreter.specs.Threads.{Becomes, item_of, place_of, use_of};
 
+use crate::execution::Execution;
 use crate::item::{Item, LoopStage, Place, Use};
 use crate::operands::top_value;
-use crate::execution::Execution;
 use dsm_base::MemFault;
 use dsm_check::{Function, Part, Statement};
 

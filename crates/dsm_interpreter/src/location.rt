@@ -9,9 +9,9 @@ ghost use Rattle.dsm_base.specs.Steps.{goes};
 ghost use Rattle.dsm_interpreter.specs.Sound.{IsSoundItem};
 ghost use Rattle.dsm_interpreter.specs.Threads.{Becomes, Steps, state_in, place_of, use_of};
 
+use crate::execution::Execution;
 use crate::item::{Item, Place, Use};
 use crate::operands::{pop_value, top_value, value_below};
-use crate::execution::Execution;
 use dsm_base::{Cell, Fault, MemFault, Want};
 use dsm_check::{Array, Location};
 use dsm_syntax::Sharing;
@@ -143,8 +143,10 @@ impl<'a> Execution<'a> {
     /// Leaves the value of a member, whose index is on top.
     pub fn leave_loaded_member(&mut self, way: Use, value: i64) -> Result<(), MemFault>
         ensures { OnOk result (Becomes self.old self.new (λ s.
-            record s { operands = loaded (use_of way) (top s.operands ∷ [])
-            (below s.operands) value })) }
+            record s {
+              operands = loaded (use_of way) (top s.operands ∷ [])
+                  (below s.operands) value;
+            })) }
     {
         let index = pop_value(&mut self.frame.operands);
         if let Use::StepBehind = way {

@@ -7,10 +7,10 @@ ghost use Rattle.dsm_semantics.specs.Semantics.{lock_number, below_index};
 ghost use Rattle.dsm_interpreter.specs.Sound.{IsSoundItem};
 ghost use Rattle.dsm_interpreter.specs.Threads.{Becomes, Steps, state_in, lock_of};
 
-use crate::item::LockAt;
-use crate::operands::{pop_value, top_value};
-use crate::location::member_number;
 use crate::execution::Execution;
+use crate::item::LockAt;
+use crate::location::member_number;
+use crate::operands::{pop_value, top_value};
 use dsm_base::{Fault, Lock, Mode, Want};
 
 impl LockAt {

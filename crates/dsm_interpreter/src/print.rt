@@ -8,9 +8,9 @@ ghost use Rattle.dsm_semantics.specs.Within.{Extent, ArePartsWithin, most_bytes,
 ghost use Rattle.dsm_interpreter.specs.Lines.{Grows, IsLine};
 ghost use Rattle.dsm_interpreter.specs.Threads.{state_in};
 
+use crate::execution::Execution;
 use crate::finish::values_in;
 use crate::item::Item;
-use crate::execution::Execution;
 use dsm_base::{MemFault, Text};
 use dsm_check::Part;
 use itoa::Buffer;

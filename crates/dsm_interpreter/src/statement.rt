@@ -8,10 +8,10 @@ ghost use Rattle.dsm_semantics.specs.Semantics;
 ghost use Rattle.dsm_check.specs.Resolved as r;
 ghost use Rattle.dsm_interpreter.specs.Threads.{Becomes, Steps, frame_of, item_of, loop_of, other_of, option_of, lock_of, stage_of};
 
+use crate::execution::Execution;
 use crate::frame::Frame;
 use crate::item::{Item, LockAt, Loop, LoopStage, Place};
 use crate::location::set_at;
-use crate::execution::Execution;
 use dsm_base::{MemFault, Mode, Want};
 use dsm_check::{Expression, ForStart, LockPlace, Part, Statement, Variable};
 
@@ -61,8 +61,10 @@ impl<'a> Execution<'a> {
         other: Option<&'a Statement>,
     ) -> Result<(), MemFault>
         ensures { OnOk result (Becomes self.old self.new (λ s.
-            record s { todo = States.evaluate (view test.now) ∷ branch (view_statement body.now)
-            (other_of other.entry) ∷ s.todo })) }
+            record s {
+              todo = States.evaluate (view test.now) ∷ branch (view_statement body.now)
+                  (other_of other.entry) ∷ s.todo;
+            })) }
     {
         self.frame.todo.push(Item::Branch(body, other))?;
         self.frame.todo.push(Item::Evaluate(test))
@@ -75,9 +77,14 @@ impl<'a> Execution<'a> {
         body: &'a Statement,
     ) -> Result<(), MemFault>
         ensures { OnOk result (Becomes self.old self.new (λ s.
-            record s { todo = States.round
-            (record { test = option_of test.entry; step = option_of step.entry;
-            body = view_statement body.now }) ∷ s.todo })) }
+            record s {
+              todo = States.round
+                  (record {
+                    test = option_of test.entry;
+                    step = option_of step.entry;
+                    body = view_statement body.now;
+                  }) ∷ s.todo;
+            })) }
     {
         let looping = Loop { test, step, body };
         self.frame.todo.push(Item::Go(LoopStage::Round, looping))
@@ -242,8 +249,10 @@ impl<'a> Execution<'a> {
 
     fn begin_body(&mut self, looping: Loop<'a>) -> Result<(), MemFault>
         ensures { OnOk result (Becomes self.old self.new (λ s.
-            record s { todo = execute (loop_of looping.entry).body ∷ States.third_part
-            (loop_of looping.entry) ∷ s.todo })) }
+            record s {
+              todo = execute (loop_of looping.entry).body ∷ States.third_part
+                  (loop_of looping.entry) ∷ s.todo;
+            })) }
     {
         self.frame
             .todo
@@ -280,8 +289,10 @@ fn lock_at(lock: &LockPlace) -> LockAt
 impl Frame<'_> {
     /// Goes on behind the innermost loop.
     fn leave_loop(&mut self)
-        ensures { frame_of self.new ≡ record (frame_of self.old) { todo = Semantics.after_loop
-            (frame_of self.old).todo } }
+        ensures { frame_of self.new ≡ record (frame_of self.old) {
+          todo = Semantics.after_loop
+              (frame_of self.old).todo;
+        } }
     {
         while let Some(item) = self.todo.pop() {
             if is_third_part(item) {
@@ -292,8 +303,10 @@ impl Frame<'_> {
 
     /// Goes on behind the body of the innermost loop.
     fn leave_body(&mut self)
-        ensures { frame_of self.new ≡ record (frame_of self.old) { todo = Semantics.after_body
-            (frame_of self.old).todo } }
+        ensures { frame_of self.new ≡ record (frame_of self.old) {
+          todo = Semantics.after_body
+              (frame_of self.old).todo;
+        } }
     {
         while let Some(item) = self.todo.top() {
             if is_third_part(item) {

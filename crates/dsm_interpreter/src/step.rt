@@ -7,10 +7,10 @@ ghost use Rattle.dsm_semantics.specs.Semantics.{step};
 ghost use Rattle.dsm_interpreter.specs.Sound.{IsSoundItem, IsSoundState};
 ghost use Rattle.dsm_interpreter.specs.Threads.{Steps, state_in, item_of};
 
+use crate::execution::Execution;
 use crate::frame::Life;
 use crate::item::Item;
 use crate::operands::pop_value;
-use crate::execution::Execution;
 use dsm_base::{MemFault, Want};
 
 impl<'a> Execution<'a> {
