@@ -15,3 +15,6 @@ pub mod Rights
 pub mod Endings
 pub mod Agrees
 pub mod Setups
+pub mod BigEndian
+pub mod Store
+pub mod MemStore

@@ -11,6 +11,11 @@ use std::marker::Model;
 pub enum CallKind {
     Read,
     Put,
+    Clear,
+    Room,
+    Write,
+    Mark,
+    Marked,
 }
 
 /// After how many more calls of a kind one fails.
