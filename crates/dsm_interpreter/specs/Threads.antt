@@ -7,6 +7,7 @@ use Rattle.dsm_check.specs.declared.resolved.Expression.{Expression}
 use Rattle.dsm_check.specs.declared.resolved.Statement.{Statement}
 use Rattle.dsm_check.specs.Resolved as r
 use Rattle.dsm_check.specs.Views.{view, views, view_variable, view_part, view_statement, view_statements, view_function}
+use Rattle.dsm_base.specs.Steps as steps
 use Rattle.dsm_base.specs.Steps.{Move, goes, asks}
 use Rattle.dsm_semantics.specs.States as m
 use Rattle.dsm_semantics.specs.Semantics.{program_semantics}
@@ -18,7 +19,7 @@ use Rattle.dsm_interpreter.specs.declared.item.LoopStage.{LoopStage}
 use Rattle.dsm_interpreter.specs.declared.item.Item.{Item}
 use Rattle.dsm_interpreter.specs.declared.call.Callee.{Callee}
 use Rattle.dsm_interpreter.specs.declared.frame.Frame.{Frame}
-use Rattle.dsm_interpreter.specs.declared.frame.Life.{Life}
+use Rattle.dsm_interpreter.specs.declared.frame.Over.{Over}
 use Rattle.dsm_interpreter.specs.declared.execution.Execution.{Execution}
 use Rattle.dsm_interpreter.specs.declared.thread.PlainThread.{PlainThread}
 
@@ -99,11 +100,15 @@ callee_of callee = record { params = callee.params; slots = callee.slots; body =
 abbrev pub frame_of : Frame → m.Frame
 frame_of frame = record { todo = map item_of frame.todo; operands = frame.operands; slots = frame.slots.items }
 
--- whether a thread is over, and how
-abbrev pub life_of : Life → m.Life
-life_of Life.Going = m.going
-life_of Life.Ended = m.ended
-life_of (Life.Stopped fault line) = m.stopped fault line
+-- how a thread came to be over
+abbrev pub over_of : Over → steps.Over
+over_of Over.Ended = steps.ended
+over_of (Over.Stopped fault line) = steps.stopped fault line
+
+-- the same, if it is
+abbrev pub life_of : Option Over → Option steps.Over
+life_of None = None
+life_of (Some way) = Some (over_of way)
 
 -- the state that an execution has come to
 abbrev pub state_in : Execution → m.State

@@ -8,10 +8,10 @@ ghost use Rattle.dsm_check.specs.Resolved as r;
 ghost use Rattle.dsm_semantics.specs.Semantics.{numbered};
 ghost use Rattle.dsm_semantics.specs.States.{run, over};
 ghost use Rattle.dsm_semantics.specs.Finished.{return_finished};
-ghost use Rattle.dsm_interpreter.specs.Threads.{Becomes, Steps, callee_of, frame_of, life_of};
+ghost use Rattle.dsm_interpreter.specs.Threads.{Becomes, Steps, callee_of, frame_of, over_of};
 
 use crate::execution::Execution;
-use crate::frame::{Frame, Life};
+use crate::frame::{Frame, Over};
 use crate::item::Item;
 use dsm_base::{Fault, MemFault, Stack, Want};
 use dsm_check::{Function, Statement};
@@ -126,7 +126,7 @@ impl<'a> Execution<'a> {
     {
         match self.outer.pop() {
             None => {
-                self.end(Life::Ended);
+                self.end(Over::Ended);
                 Ok(())
             }
             Some(caller) => {
@@ -137,13 +137,13 @@ impl<'a> Execution<'a> {
     }
 
     /// The thread is over; only its private cells are left.
-    pub fn end(&mut self, life: Life)
-        ensures { Becomes self.old self.new (λ s. over s (life_of life)) }
+    pub fn end(&mut self, way: Over)
+        ensures { Becomes self.old self.new (λ s. over s (over_of way)) }
     {
         self.frame.todo.clear();
         self.frame.operands.clear();
         self.frame.slots.clear();
         self.outer.clear();
-        self.life = life;
+        self.life = Some(way);
     }
 }

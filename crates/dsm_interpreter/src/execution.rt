@@ -9,7 +9,7 @@ ghost use Rattle.dsm_interpreter.specs.Sound.{IsSoundState};
 ghost use Rattle.dsm_interpreter.specs.Threads.{callee_of, state_in};
 
 use crate::call::{Callee, new_frame};
-use crate::frame::{Frame, Life};
+use crate::frame::{Frame, Over};
 use dsm_base::{MemFault, Proc, Stack, Want};
 use std::alloc::Global;
 
@@ -22,7 +22,8 @@ pub struct Execution<'a> {
     pub outer: Stack<Frame<'a>>,
     /// The private cells.
     pub own: Vec<i64>,
-    pub life: Life,
+    /// How the thread came to be over, if it is.
+    pub life: Option<Over>,
 }
 
 impl<'a> Execution<'a> {
@@ -43,7 +44,7 @@ impl<'a> Execution<'a> {
             frame: new_frame(alloc, main, arguments.as_slice())?,
             outer: Stack::new(alloc),
             own: vec![in alloc; 0; private_cells as usize]?,
-            life: Life::Going,
+            life: None,
         })
     }
 

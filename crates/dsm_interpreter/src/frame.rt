@@ -12,10 +12,11 @@ pub struct Frame<'a> {
     pub slots: Vec<i64>,
 }
 
-/// Whether a thread is over, and how.
+/// How a thread came to be over.
 #[derive(Clone, Copy)]
-pub enum Life {
-    Going,
+pub enum Over {
+    /// Its `main` has returned.
     Ended,
+    /// It has stopped, at a line of the source.
     Stopped(Fault, u32),
 }

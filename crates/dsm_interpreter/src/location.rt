@@ -74,8 +74,8 @@ impl<'a> Execution<'a> {
     /// Tests the index on top.
     pub fn test_index(&self, array: Array, line: u32) -> Option<Want>
         ensures { Steps self.now self.now (λ s.
-            Semantics.at_member s line (Semantics.member_number array (top s.operands)) (λ number.
-            goes s)) result }
+            Semantics.at_member s line (Semantics.member_number array (top s.operands))
+            (λ number. goes s)) result }
     {
         match member_number(array, top_value(&self.frame.operands)) {
             Some(_) => None,

@@ -5,7 +5,8 @@ ghost use Rattle.dsm_check.specs.Views.{view_part};
 ghost use Rattle.dsm_semantics.specs.States.{top, below};
 ghost use Rattle.dsm_semantics.specs.Semantics.{parts_text, text_at};
 ghost use Rattle.dsm_semantics.specs.Within.{Extent, ArePartsWithin, most_bytes, IsStateWithin};
-ghost use Rattle.dsm_interpreter.specs.Lines.{Grows, IsLine};
+ghost use Rattle.dsm_base.specs.Output.{IsLine};
+ghost use Rattle.dsm_interpreter.specs.Lines.{Grows};
 ghost use Rattle.dsm_interpreter.specs.Threads.{state_in};
 
 use crate::execution::Execution;
@@ -56,8 +57,8 @@ impl<'a> ValuesLeft<'a> {
 /// Appends the texts of the parts of a print, with nothing between: strings as they are, and values in
 /// decimal.
 fn write_parts(line: &mut Vec<u8>, parts: &[Part], values: &[i64]) -> Result<(), MemFault>
-    ensures text { OnOk result (line.new.items ≡ line.old.items ++ parts_text
-        (map view_part parts.now) values.now) }
+    ensures text { OnOk result (line.new.items ≡
+        line.old.items ++ parts_text (map view_part parts.now) values.now) }
     ensures grows { OnOk result ((extent : Extent) →
         ArePartsWithin extent (map view_part parts.now) →
         Grows (most_bytes (map view_part parts.now)) line.old.items line.new.items) }

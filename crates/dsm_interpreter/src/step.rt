@@ -8,7 +8,6 @@ ghost use Rattle.dsm_interpreter.specs.Sound.{IsSoundItem, IsSoundState};
 ghost use Rattle.dsm_interpreter.specs.Threads.{Steps, state_in, item_of};
 
 use crate::execution::Execution;
-use crate::frame::Life;
 use crate::item::Item;
 use crate::operands::pop_value;
 use dsm_base::{MemFault, Want};
@@ -59,9 +58,8 @@ impl<'a> Execution<'a> {
         ensures { IfOk result (λ wanted. (functions : List r.Function) →
             Steps self.old self.new (λ s. step functions s) wanted) }
     {
-        match self.life {
-            Life::Going => {}
-            Life::Ended | Life::Stopped(_, _) => return Ok(Some(Want::Over)),
+        if self.life.is_some() {
+            return Ok(Some(Want::Over));
         }
         let Some(item) = self.frame.todo.pop() else {
             return Ok(Some(self.leave()));

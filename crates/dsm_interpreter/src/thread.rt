@@ -5,15 +5,15 @@ ghost use Rattle.dsm_base.specs.declared.label.Label.{Label};
 ghost use Rattle.dsm_base.specs.Output.{IsLine};
 ghost use Rattle.dsm_base.specs.Threads.{Completes, line_of};
 ghost use Rattle.dsm_check.specs.Views.{view_function};
-ghost use Rattle.dsm_semantics.specs.Semantics.{first_state};
+ghost use Rattle.dsm_semantics.specs.Semantics.{completed, first_state};
 ghost use Rattle.dsm_semantics.specs.States.{ending_of};
-ghost use Rattle.dsm_semantics.specs.Within.{Extent, AreFunctionsWithin};
+ghost use Rattle.dsm_semantics.specs.Within.{Extent, AreFunctionsWithin, IsStateWithin};
 ghost use Rattle.dsm_interpreter.specs.Sound.{AreSound, IsNarrow, IsReady};
 ghost use Rattle.dsm_interpreter.specs.Threads.{functions_of, semantics_of, state_of, told_by};
 
 use crate::call::callee_at;
 use crate::execution::Execution;
-use crate::frame::Life;
+use crate::frame::Over;
 use dsm_base::{Ending, Fault, MemFault, Proc, Text, Want};
 use dsm_check::Function;
 use std::alloc::Global;
@@ -73,12 +73,27 @@ impl<'a> PlainThread<'a> {
             IsReady extent self.old → IsReady extent self.new) }
         ensures program { functions_of self.new ≡ functions_of self.old }
     {
-        match self.wanted {
-            Want::Stop(fault, line) => self.execution.end(Life::Stopped(fault, line)),
-            _ => self.execution.finish(self.functions, answer)?,
-        }
+        self.complete(answer)?;
         self.wanted = self.execution.go_on()?;
         Ok(())
+    }
+
+    /// Completes the step that it wants.
+    fn complete(&mut self, answer: i64) -> Result<(), MemFault>
+        requires { (extent : Extent) × IsReady extent self.old }
+        ensures state { OnOk result ((label : Label) → Completes (told_by self.old) answer label →
+            state_of self.new ≡ completed (functions_of self.old) (state_of self.old) label) }
+        ensures within { OnOk result ((extent : Extent) →
+            IsReady extent self.old → IsStateWithin extent (state_of self.new)) }
+        ensures program { functions_of self.new ≡ functions_of self.old }
+    {
+        match self.wanted {
+            Want::Stop(fault, line) => {
+                self.execution.end(Over::Stopped(fault, line));
+                Ok(())
+            }
+            _ => self.execution.finish(self.functions, answer),
+        }
     }
 
     /// The thread has stopped, at the line of what it wants.
@@ -90,7 +105,7 @@ impl<'a> PlainThread<'a> {
         ensures program { functions_of self.new ≡ functions_of self.old }
     {
         let line = line_of(self.wanted);
-        self.execution.end(Life::Stopped(fault, line));
+        self.execution.end(Over::Stopped(fault, line));
         self.wanted = Want::Over;
     }
 
@@ -109,9 +124,9 @@ impl<'a> PlainThread<'a> {
         ensures { result ≡ ending_of (state_of self.now) }
     {
         match self.execution.life {
-            Life::Going => None,
-            Life::Ended => Some(Ending::Ended),
-            Life::Stopped(_, _) => Some(Ending::Stopped),
+            None => None,
+            Some(Over::Ended) => Some(Ending::Ended),
+            Some(Over::Stopped(_, _)) => Some(Ending::Stopped),
         }
     }
 }

@@ -11,7 +11,7 @@ use Rattle.dsm_base.specs.declared.setup.Setup.{Setup}
 use Rattle.dsm_base.specs.Family.{update}
 use Rattle.dsm_base.specs.Threads.{Semantics}
 use Rattle.dsm_base.specs.Plain.{PlainState, plain_after, plain_turn, plain_turn_of, memory_after, held_after, versions_after, arrived_after, can_take, can_cross}
-use Rattle.dsm_laws_runs.proofs.Families.{all_same}
+use Rattle.dsm_base.proofs.Families.{all_same}
 use Rattle.dsm_laws_runs.proofs.OwnPart.{other_thread, other_held, other_crossed}
 use Rattle.dsm_laws_runs.proofs.Swap.{same_state}
 use Rattle.dsm_laws_runs.specs.Swap.{clashes}

@@ -11,7 +11,7 @@ pub data Thing : Type 0 where
   a_barrier : ℕ → Thing
   a_cell : ℕ → Thing
 
--- what a label touches
+-- what a label touches, if anything
 abbrev pub touched : Label → Option Thing
 touched (Label.Load cell value) = Some (a_cell cell.0)
 touched (Label.Store cell value) = Some (a_cell cell.0)
@@ -25,6 +25,7 @@ touched (Label.Line text) = None
 touched Label.End = None
 touched (Label.Stop fault line) = None
 
+-- there is nothing that both labels touch
 abbrev pub TouchNothingInCommon : Label → Label → Type 0
 TouchNothingInCommon one other = (thing : Thing) → touched one ≡ Some thing → touched other ≢ Some thing
 

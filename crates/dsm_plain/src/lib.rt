@@ -8,4 +8,4 @@ mod turn;
 mod waiting;
 
 pub use machine::Plain;
-pub use waiting::{Picked, Procs};
+pub use waiting::Picked;

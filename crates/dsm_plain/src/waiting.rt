@@ -6,8 +6,9 @@ ghost use Rattle.dsm_base.specs.Rights.{held_of, arrived_of};
 ghost use Rattle.dsm_plain.specs.Machine.{rights_at};
 ghost use Rattle.dsm_plain.specs.Waiting;
 
-use dsm_base::{Bar, Holder, Holders, Label, Lock, MemFault, Mode, Proc, Procs, Rights};
-use dsm_base::are_compatible;
+use dsm_base::{
+    Bar, Holder, Holders, Label, Lock, MemFault, Mode, Proc, Procs, Rights, are_compatible,
+};
 use sqlite_items::Items;
 use std::alloc::Global;
 

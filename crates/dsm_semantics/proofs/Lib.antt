@@ -4,4 +4,5 @@ pub mod Asking
 pub mod Within
 pub mod Accepted
 pub mod Finishing
+pub mod Endings
 pub mod Next

@@ -5,15 +5,18 @@ use Rattle.dsm_base.specs.Steps.{next_of, ended}
 use Rattle.dsm_semantics.specs.States.{Place, slot, cell, member, Use, Item, load, store, enter, execute, round, jump_back, leave, ask, take_lock, give, cross, print, Frame, State, top, below, over}
 use Rattle.dsm_semantics.specs.Semantics.{loaded, numbered, entered, returns, below_index, values_in}
 
+-- of a load
 abbrev pub load_finished : State → Use → Place → ℤ → State
 load_finished s way (slot number) answer = s
 load_finished s way (cell sharing number line) answer = record s { operands = loaded way [] s.operands answer }
 load_finished s way (member sharing array line) answer = record s { operands = loaded way (top s.operands ∷ []) (below s.operands) answer }
 
+-- of a store
 abbrev pub store_finished : State → Place → State
 store_finished s (member sharing array line) = record s { operands = top s.operands ∷ below (below s.operands) }
 store_finished s _ = s
 
+-- of a statement: an arrival is followed by its crossing
 abbrev pub statement_finished : State → r.Statement → State
 statement_finished s (r.barrier bar) = record s { todo = cross bar ∷ s.todo }
 statement_finished s _ = s
@@ -23,6 +26,7 @@ abbrev pub return_finished : State → ℤ → List Frame → State
 return_finished s value [] = over s ended
 return_finished s value (caller ∷ outer) = next_of s (pos 0) (returns s value (caller ∷ outer))
 
+-- of an item
 abbrev pub finished : List r.Function → State → Item → ℤ → State
 finished functions s (load place way) answer = load_finished s way place answer
 finished functions s (store place) answer = store_finished s place

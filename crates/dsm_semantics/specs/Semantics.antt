@@ -18,6 +18,7 @@ use Rattle.dsm_semantics.specs.Weights.{weight}
 
 -- How steps go. In what follows `s` is the state behind the item that is done.
 
+-- goes on with this to be done
 abbrev pub does : State → List Item → Move State
 does s todo = goes (record s { todo = todo })
 
@@ -25,9 +26,11 @@ does s todo = goes (record s { todo = todo })
 abbrev pub leaves : State → List ℤ → ℤ → Move State
 leaves s rest value = goes (record s { operands = value ∷ rest })
 
+-- stops for a fault at a line
 abbrev pub faults : State → Fault → ℕ → Move State
 faults s fault line = asks (Want.Stop fault line) (λ answer. s)
 
+-- leaves what an operator comes to in place of its operands, or stops for its fault
 abbrev pub comes_to : State → List ℤ → ℕ → Outcome → Move State
 comes_to s rest line (Ok value) = leaves s rest value
 comes_to s rest line (Err fault) = faults s fault line
@@ -50,6 +53,7 @@ reaching (r.variable number) k = k
 reaching (r.cell sharing number line) k = k
 reaching (r.element sharing array index line) k = evaluate index ∷ test_index array line ∷ k
 
+-- where a location is
 abbrev pub place_of : r.Location → Place
 place_of (r.variable number) = slot number
 place_of (r.cell sharing number line) = cell sharing number line
@@ -66,16 +70,19 @@ abbrev pub loads : State → Sharing → ℕ → ℕ → (ℤ → State) → Mov
 loads s Sharing.Shared number line after = asks (Want.Load (record { 0 = number }) line) after
 loads s Sharing.Private number line after = goes (after (get_or s.own number (pos 0)))
 
+-- a load of a place
 abbrev pub load_at : State → Use → Place → Move State
 load_at s way (slot number) = goes (record s { operands = loaded way [] s.operands (get_or s.slots number (pos 0)) })
 load_at s way (cell sharing number line) = loads s sharing number line (λ v. record s { operands = loaded way [] s.operands v })
 load_at s way (member sharing array line) = at_member s line (member_number array (top s.operands)) (λ number.
     loads s sharing number line (λ v. record s { operands = loaded way (top s.operands ∷ []) (below s.operands) v }))
 
+-- only stores to shared cells have labels
 abbrev pub stores : Sharing → ℕ → ℕ → ℤ → State → Move State
 stores Sharing.Shared number line value after = asks (Want.Store (record { 0 = number }) value line) (λ answer. after)
 stores Sharing.Private number line value after = goes (record after { own = set after.own number value })
 
+-- a store of the value on top to a place
 abbrev pub store_at : State → Place → Move State
 store_at s (slot number) = goes (record s { slots = set s.slots number (top s.operands) })
 store_at s (cell sharing number line) = stores sharing number line (top s.operands) s
@@ -95,6 +102,7 @@ abbrev pub assigning : Option BinaryOp → ℕ → Place → r.Expression → Li
 assigning None line place e k = evaluate e ∷ store place ∷ k
 assigning (Some op) line place e k = load place for_change ∷ evaluate e ∷ binary op line ∷ store place ∷ k
 
+-- the step of an expression: what it is made of comes first, from the left
 abbrev pub evaluation : State → r.Expression → Move State
 evaluation s (r.number n) = leaves s s.operands n
 evaluation s (r.load location) = does s (reaching location (load (place_of location) for_value ∷ s.todo))
@@ -108,6 +116,7 @@ evaluation s (r.binary a op line b) = does s (evaluate a ∷ second op line b s.
 evaluation s (r.choice test a b) = does s (evaluate test ∷ choose a b ∷ s.todo)
 evaluation s (r.assign location op line e) = does s (reaching location (assigning (operator_of op) line (place_of location) e s.todo))
 
+-- arguments from the left
 abbrev pub evaluation_of_all : State → r.Expressions → Move State
 evaluation_of_all s r.nil = goes s
 evaluation_of_all s (r.cons e rest) = does s (evaluate e ∷ evaluate_all rest ∷ s.todo)
@@ -136,6 +145,7 @@ entered s function = record s {
   outer = record { todo = s.todo; operands = drop function.params s.operands; slots = s.slots } ∷ s.outer;
 }
 
+-- a call enters a function, where it is not one too many
 abbrev pub entering : State → ℕ → r.Function → Move State
 entering s line function =
     if nat_lt (length s.outer + 1) most_depth then asks Want.Quiet (λ answer. entered s function) else faults s Fault.Depth line
@@ -157,10 +167,12 @@ abbrev pub declaring : State → ℕ → Option r.Expression → Move State
 declaring s number None = goes (record s { slots = set s.slots number (pos 0) })
 declaring s number (Some e) = does s (evaluate e ∷ store (slot number) ∷ discard ∷ s.todo)
 
+-- variables from the first on
 abbrev pub declaration : State → List r.Variable → Move State
 declaration s [] = goes s
 declaration s (variable ∷ rest) = declaring (record s { todo = declare rest ∷ s.todo }) variable.slot variable.initial
 
+-- the chosen part of an `if`, where there is one
 abbrev pub branching : List Item → Option r.Statement → List Item
 branching k None = k
 branching k (Some body) = execute body ∷ k
@@ -171,10 +183,12 @@ starting r.start_nothing k = k
 starting (r.start_variables variables) k = declare variables ∷ k
 starting (r.start_expression e) k = evaluate e ∷ discard ∷ k
 
+-- the test of a loop, where it has one, comes before its body
 abbrev pub testing : List Item → Loop → Option r.Expression → List Item
 testing k loop None = execute loop.body ∷ third_part loop ∷ k
 testing k loop (Some e) = evaluate e ∷ decide loop ∷ k
 
+-- the third part of a `for`, where it has one
 abbrev pub stepping : List Item → Option r.Expression → List Item
 stepping k None = k
 stepping k (Some e) = evaluate e ∷ discard ∷ k
@@ -191,10 +205,12 @@ after_body [] = []
 after_body (third_part loop ∷ k) = third_part loop ∷ k
 after_body (item ∷ k) = after_body k
 
+-- the index of a lock comes before all else that is done with it
 abbrev pub reaching_lock : r.LockPlace → List Item → List Item
 reaching_lock (r.one_lock lock line) k = k
 reaching_lock (r.lock_element array index line) k = evaluate index ∷ test_index array line ∷ k
 
+-- where a lock is
 abbrev pub lock_place_of : r.LockPlace → LockPlace
 lock_place_of (r.one_lock lock line) = one_lock lock line
 lock_place_of (r.lock_element array index line) = lock_member array line
@@ -204,6 +220,7 @@ abbrev pub lock_number : LockPlace → List ℤ → Option ℕ
 lock_number (one_lock lock line) operands = Some lock.0
 lock_number (lock_member array line) operands = member_number array (top operands)
 
+-- the line of the name of a lock
 abbrev pub lock_line : LockPlace → ℕ
 lock_line (one_lock lock line) = line
 lock_line (lock_member array line) = line
@@ -217,11 +234,13 @@ below_index (lock_member array line) operands = below operands
 abbrev pub at_lock : State → LockPlace → (Lock → Move State) → Move State
 at_lock s lock go = at_member s (lock_line lock) (lock_number lock s.operands) (λ number. go (record { 0 = number }))
 
+-- the values of a print from the left
 abbrev pub gathering : State → List r.Part → Move State
 gathering s [] = goes s
 gathering s (r.part_text text ∷ rest) = does s (gather rest ∷ s.todo)
 gathering s (r.part_value e ∷ rest) = does s (evaluate e ∷ gather rest ∷ s.todo)
 
+-- how many values a print has
 abbrev pub values_in : List r.Part → ℕ
 values_in [] = 0
 values_in (r.part_text text ∷ rest) = values_in rest
@@ -233,6 +252,7 @@ parts_text [] values = []
 parts_text (r.part_text text ∷ rest) values = text ++ parts_text rest values
 parts_text (r.part_value e ∷ rest) values = signed_decimal (top values) ++ parts_text rest (below values)
 
+-- the step of a statement
 abbrev pub execution : State → r.Statement → Move State
 execution s (r.block body) = does s (run body ∷ s.todo)
 execution s r.empty = goes s
@@ -251,12 +271,14 @@ execution s (r.release lock) = does s (reaching_lock lock (give (lock_place_of l
 execution s (r.barrier bar) = asks (Want.Arrive bar) (λ answer. record s { todo = cross bar ∷ s.todo })
 execution s (r.print parts) = does s (gather parts ∷ print parts ∷ s.todo)
 
+-- statements from the first on
 abbrev pub execution_of_all : State → r.Statements → Move State
 execution_of_all s r.none = goes s
 execution_of_all s (r.then statement rest) = does s (execute statement ∷ run rest ∷ s.todo)
 
 -- Steps.
 
+-- the step of an item
 abbrev pub act : List r.Function → State → Item → Move State
 act functions s (evaluate e) = evaluation s e
 act functions s (evaluate_all arguments) = evaluation_of_all s arguments

@@ -103,5 +103,6 @@ ending_in None = None
 ending_in (Some ended) = Some Ending.Ended
 ending_in (Some (stopped fault line)) = Some Ending.Stopped
 
+-- the same, of a state
 abbrev pub ending_of : State → Option Ending
 ending_of s = ending_in s.life

@@ -8,6 +8,7 @@ use Rattle.dsm_syntax.specs.declared.tree.StepOp.{StepOp}
 use Rattle.dsm_syntax.specs.declared.tree.BinaryOp.{BinaryOp}
 use Rattle.dsm_syntax.specs.declared.tree.AssignOp.{AssignOp}
 
+-- what an operator comes to: a value, or a fault
 abbrev pub Outcome : Type 0
 Outcome = Result ℤ Fault
 
@@ -16,6 +17,7 @@ abbrev pub fits_64_bits : ℤ → Bool
 fits_64_bits (pos n) = nat_lt n (2 ^ 63)
 fits_64_bits (negsuc n) = nat_lt n (2 ^ 63)
 
+-- a value that fits 64 bits, and else an overflow
 abbrev pub fitting : ℤ → Outcome
 fitting z = if fits_64_bits z then Ok z else Err Fault.Overflow
 
@@ -23,9 +25,11 @@ fitting z = if fits_64_bits z then Ok z else Err Fault.Overflow
 abbrev pub holds : ℤ → Bool
 holds z = not (int_eq z (pos 0))
 
+-- a test as a value
 abbrev pub truth : Bool → ℤ
 truth b = if b then pos 1 else pos 0
 
+-- a divisor must not be 0
 abbrev pub unless_zero : ℤ → Outcome → Outcome
 unless_zero divisor outcome = if int_eq divisor (pos 0) then Err Fault.DivZero else outcome
 
@@ -38,12 +42,14 @@ abbrev pub shifted : (ℕ → Outcome) → ℤ → Outcome
 shifted by (pos n) = if nat_lt n 64 then by n else Err Fault.Shift
 shifted by (negsuc n) = Err Fault.Shift
 
+-- an operator before its operand
 abbrev pub unary_value : UnaryOp → ℤ → Outcome
 unary_value UnaryOp.Negate a = fitting (neg_ℤ a)
 unary_value UnaryOp.Plus a = Ok a
 unary_value UnaryOp.Not a = Ok (truth (not (holds a)))
 unary_value UnaryOp.Complement a = Ok (int_bit_not w64 a)
 
+-- a step by one
 abbrev pub step_value : StepOp → ℤ → Outcome
 step_value StepOp.Increment a = fitting (a +ℤ pos 1)
 step_value StepOp.Decrement a = fitting (a -ℤ pos 1)

@@ -4,11 +4,13 @@ use Rattle.dsm_check.specs.Resolved as r
 use Rattle.dsm_semantics.specs.States.{Loop, Item, evaluate, evaluate_all, and_then, or_else, choose, execute, run, declare, branch, round, decide, third_part, gather}
 
 abbrev mutual
+  -- of what is loaded or stored to
   pub location_weight : r.Location → ℕ
   location_weight (r.variable number) = 0
   location_weight (r.cell sharing number line) = 0
   location_weight (r.element sharing array index line) = expression_weight index + 1
 
+  -- of an expression
   pub expression_weight : r.Expression → ℕ
   expression_weight (r.number n) = 1
   expression_weight (r.load location) = location_weight location + 2
@@ -20,28 +22,34 @@ abbrev mutual
   expression_weight (r.choice test a b) = expression_weight test + expression_weight a + expression_weight b + 2
   expression_weight (r.assign location op line e) = location_weight location + expression_weight e + 4
 
+  -- of arguments
   pub arguments_weight : r.Expressions → ℕ
   arguments_weight r.nil = 1
   arguments_weight (r.cons e rest) = expression_weight e + arguments_weight rest + 1
 
+-- of an expression that may be missing
 abbrev pub option_weight : Option r.Expression → ℕ
 option_weight None = 0
 option_weight (Some e) = expression_weight e + 1
 
+-- of declarations
 abbrev pub variables_weight : List r.Variable → ℕ
 variables_weight [] = 1
 variables_weight (variable ∷ rest) = option_weight variable.initial + variables_weight rest + 2
 
+-- of the parts of a print
 abbrev pub parts_weight : List r.Part → ℕ
 parts_weight [] = 1
 parts_weight (r.part_text text ∷ rest) = parts_weight rest + 1
 parts_weight (r.part_value e ∷ rest) = expression_weight e + parts_weight rest + 1
 
+-- of the first part of a `for`
 abbrev pub start_weight : r.ForStart → ℕ
 start_weight r.start_nothing = 0
 start_weight (r.start_variables variables) = variables_weight variables
 start_weight (r.start_expression e) = expression_weight e + 1
 
+-- of a lock
 abbrev pub lock_weight : r.LockPlace → ℕ
 lock_weight (r.one_lock lock line) = 0
 lock_weight (r.lock_element array index line) = expression_weight index + 1
@@ -51,6 +59,7 @@ abbrev pub round_weight : ℕ → ℕ → ℕ → ℕ
 round_weight test step body = test + step + body + 5
 
 abbrev mutual
+  -- of a statement
   pub statement_weight : r.Statement → ℕ
   statement_weight (r.block body) = statements_weight body + 1
   statement_weight r.empty = 1
@@ -68,10 +77,12 @@ abbrev mutual
   statement_weight (r.barrier bar) = 1
   statement_weight (r.print parts) = parts_weight parts + 2
 
+  -- of statements
   pub statements_weight : r.Statements → ℕ
   statements_weight r.none = 1
   statements_weight (r.then statement rest) = statement_weight statement + statements_weight rest + 1
 
+-- of the other part of an `if`
 abbrev pub other_weight : Option r.Statement → ℕ
 other_weight None = 0
 other_weight (Some other) = statement_weight other
@@ -80,6 +91,7 @@ other_weight (Some other) = statement_weight other
 abbrev pub third_part_weight : Loop → ℕ
 third_part_weight loop = option_weight loop.step + 2
 
+-- of an item
 abbrev pub weight_of : Item → ℕ
 weight_of (evaluate e) = expression_weight e
 weight_of (evaluate_all arguments) = arguments_weight arguments
@@ -96,6 +108,7 @@ weight_of (third_part loop) = third_part_weight loop
 weight_of (gather parts) = parts_weight parts
 weight_of _ = 1
 
+-- of all that remains to be done
 abbrev pub weight : List Item → ℕ
 weight [] = 0
 weight (item ∷ k) = weight_of item + weight k

@@ -28,20 +28,24 @@ extent_in program = record { cells = program.shared_cells; locks = program.locks
 abbrev pub IsArrayBelow : ℕ → Array → Type 0
 IsArrayBelow bound array = array.first + array.size ≤ bound
 
+-- a shared cell is there; a private one is no matter here
 abbrev pub IsCellWithin : Extent → Sharing → ℕ → Type 0
 IsCellWithin extent Sharing.Shared number = number < extent.cells
 IsCellWithin extent Sharing.Private number = Unit {0}
 
+-- all cells of a shared array are there
 abbrev pub IsArrayWithin : Extent → Sharing → Array → Type 0
 IsArrayWithin extent Sharing.Shared array = IsArrayBelow extent.cells array
 IsArrayWithin extent Sharing.Private array = Unit {0}
 
 abbrev mutual
+  -- of a location
   pub IsLocationWithin : Extent → r.Location → Type 0
   IsLocationWithin extent (r.variable number) = Unit {0}
   IsLocationWithin extent (r.cell sharing number line) = IsCellWithin extent sharing number
   IsLocationWithin extent (r.element sharing array index line) = IsArrayWithin extent sharing array × IsWithin extent index
 
+  -- of an expression
   pub IsWithin : Extent → r.Expression → Type 0
   IsWithin extent (r.number n) = Unit {0}
   IsWithin extent (r.load location) = IsLocationWithin extent location
@@ -53,21 +57,26 @@ abbrev mutual
   IsWithin extent (r.choice test a b) = IsWithin extent test × IsWithin extent a × IsWithin extent b
   IsWithin extent (r.assign location op line e) = IsLocationWithin extent location × IsWithin extent e
 
+  -- of arguments
   pub AreWithin : Extent → r.Expressions → Type 0
   AreWithin extent r.nil = Unit {0}
   AreWithin extent (r.cons e rest) = IsWithin extent e × AreWithin extent rest
 
+-- of an expression that may be missing
 abbrev pub IsOptionWithin : Extent → Option r.Expression → Type 0
 IsOptionWithin extent None = Unit {0}
 IsOptionWithin extent (Some e) = IsWithin extent e
 
+-- of declarations
 abbrev pub AreVariablesWithin : Extent → List r.Variable → Type 0
 AreVariablesWithin extent variables = AllByRecursion (λ variable. IsOptionWithin extent variable.initial) variables
 
+-- of a part of a print, whose strings are printable
 abbrev pub IsPartWithin : Extent → r.Part → Type 0
 IsPartWithin extent (r.part_text text) = IsTrue (is_sound_string text)
 IsPartWithin extent (r.part_value e) = IsWithin extent e
 
+-- of all parts
 abbrev pub ArePartsWithin : Extent → List r.Part → Type 0
 ArePartsWithin extent parts = AllByRecursion (IsPartWithin extent) parts
 
@@ -81,16 +90,19 @@ most_bytes (r.part_value e ∷ rest) = 20 + most_bytes rest
 abbrev pub IsPrintWithin : Extent → List r.Part → Type 0
 IsPrintWithin extent parts = ArePartsWithin extent parts × (most_bytes parts ≤ 256)
 
+-- of the first part of a `for`
 abbrev pub IsStartWithin : Extent → r.ForStart → Type 0
 IsStartWithin extent r.start_nothing = Unit {0}
 IsStartWithin extent (r.start_variables variables) = AreVariablesWithin extent variables
 IsStartWithin extent (r.start_expression e) = IsWithin extent e
 
+-- of a lock
 abbrev pub IsLockWithin : Extent → r.LockPlace → Type 0
 IsLockWithin extent (r.one_lock lock line) = lock.0 < extent.locks
 IsLockWithin extent (r.lock_element array index line) = IsArrayBelow extent.locks array × IsWithin extent index
 
 abbrev mutual
+  -- of a statement
   pub IsStatementWithin : Extent → r.Statement → Type 0
   IsStatementWithin extent (r.block body) = AreStatementsWithin extent body
   IsStatementWithin extent r.empty = Unit {0}
@@ -110,10 +122,12 @@ abbrev mutual
   IsStatementWithin extent (r.barrier bar) = bar.0 < extent.bars
   IsStatementWithin extent (r.print parts) = IsPrintWithin extent parts
 
+  -- of statements
   pub AreStatementsWithin : Extent → r.Statements → Type 0
   AreStatementsWithin extent r.none = Unit {0}
   AreStatementsWithin extent (r.then statement rest) = IsStatementWithin extent statement × AreStatementsWithin extent rest
 
+-- of all functions of a program
 abbrev pub AreFunctionsWithin : Extent → List r.Function → Type 0
 AreFunctionsWithin extent functions = AllByRecursion (λ function. AreStatementsWithin extent function.body) functions
 
@@ -130,22 +144,27 @@ NamesWithin extent _ = Unit {0}
 
 -- What remains to be done names only what there is.
 
+-- of a place
 abbrev pub IsPlaceWithin : Extent → Place → Type 0
 IsPlaceWithin extent (slot number) = Unit {0}
 IsPlaceWithin extent (cell sharing number line) = IsCellWithin extent sharing number
 IsPlaceWithin extent (member sharing array line) = IsArrayWithin extent sharing array
 
+-- of the place of a lock
 abbrev pub IsLockPlaceWithin : Extent → LockPlace → Type 0
 IsLockPlaceWithin extent (one_lock lock line) = lock.0 < extent.locks
 IsLockPlaceWithin extent (lock_member array line) = IsArrayBelow extent.locks array
 
+-- of the other part of an `if`
 abbrev pub IsOtherWithin : Extent → Option r.Statement → Type 0
 IsOtherWithin extent None = Unit {0}
 IsOtherWithin extent (Some other) = IsStatementWithin extent other
 
+-- of a loop
 abbrev pub IsLoopWithin : Extent → Loop → Type 0
 IsLoopWithin extent loop = IsOptionWithin extent loop.test × IsOptionWithin extent loop.step × IsStatementWithin extent loop.body
 
+-- of an item
 abbrev pub IsItemWithin : Extent → Item → Type 0
 IsItemWithin extent (evaluate e) = IsWithin extent e
 IsItemWithin extent (evaluate_all arguments) = AreWithin extent arguments
@@ -170,13 +189,16 @@ IsItemWithin extent (gather parts) = ArePartsWithin extent parts
 IsItemWithin extent (print parts) = IsPrintWithin extent parts
 IsItemWithin extent _ = Unit {0}
 
+-- of items
 abbrev pub AreItemsWithin : Extent → List Item → Type 0
 AreItemsWithin extent [] = Unit {0}
 AreItemsWithin extent (item ∷ k) = IsItemWithin extent item × AreItemsWithin extent k
 
+-- of the functions that wait
 abbrev pub AreFramesWithin : Extent → List Frame → Type 0
 AreFramesWithin extent [] = Unit {0}
 AreFramesWithin extent (frame ∷ outer) = AreItemsWithin extent frame.todo × AreFramesWithin extent outer
 
+-- of a state
 abbrev pub IsStateWithin : Extent → State → Type 0
 IsStateWithin extent s = AreItemsWithin extent s.todo × AreFramesWithin extent s.outer

@@ -4,12 +4,15 @@
 ghost use Rattle.std.specs.Prelude.{◌≡◌, ℕ, List};
 ghost use Rattle.dsm_base.specs.declared.label.Want.{Want};
 ghost use Rattle.dsm_base.specs.declared.setup.Setup.{Setup};
+ghost use Rattle.dsm_base.specs.Endings.{endings_of};
+ghost use Rattle.dsm_base.specs.Plain.{Turn, after_run};
 ghost use Rattle.dsm_base.specs.Threads.{AsksFirst, StaysWithin};
 ghost use Rattle.dsm_check.specs.declared.checked.Checked.{Checked};
 ghost use Rattle.dsm_check.specs.Resolved as r;
 ghost use Rattle.dsm_check.specs.CheckedViews.{program_of};
+ghost use Rattle.dsm_check.specs.Programs.{Program};
 ghost use Rattle.dsm_check.specs.Setups.{IsSetupOf};
-ghost use Rattle.dsm_semantics.specs.States.{State};
+ghost use Rattle.dsm_semantics.specs.States.{State, ending_of};
 ghost use Rattle.dsm_semantics.specs.Semantics.{program_semantics, ready, first_state};
 ghost use Rattle.dsm_semantics.specs.Next.{IsNext};
 ghost use Rattle.dsm_semantics.specs.Programs.{threads_of, first_states};
@@ -38,4 +41,11 @@ pub fn program_stays_within()
         let program = program_of checked in
         IsSetupOf program procs setup →
         StaysWithin setup (threads_of program) (first_states program procs me) }
+{}
+
+/// How the threads of a program came to be over is told by the labels of a run.
+pub fn endings_by_labels()
+    ensures { (program : Program) (procs : ℕ) (run : List Turn) (p : ℕ) →
+        let s = after_run (first_states program procs) (threads_of program) run in
+        ending_of (s.threads p) ≡ endings_of run p }
 {}

@@ -2,7 +2,7 @@ use Rattle.std.proofs.Common.{◌≡◌, ◌∙◌, ap, rules}
 use Rattle.dsm_check.specs.Views.{view, views}
 use Rattle.dsm_check.specs.Resolved as r
 use Rattle.dsm_check.proofs.Shown.{view_call}
-use Rattle.dsm_interpreter.proofs.thread.PlainThread.evaluate.Goals as goal
+use Rattle.dsm_interpreter.proofs.execution.Execution.evaluate.Goals as goal
 
 -- a call shows the arguments that lie in its vector
 pub returns-in_ok-push-in-Call : goal.returns-in_ok-push-in-Call

@@ -2,7 +2,7 @@ use Rattle.std.proofs.Common.{◌≡◌, ◌∙◌, ap, rules}
 use Rattle.dsm_check.specs.Views.{view_statement, view_statements}
 use Rattle.dsm_check.specs.Resolved as r
 use Rattle.dsm_check.proofs.Shown.{view_block}
-use Rattle.dsm_interpreter.proofs.thread.PlainThread.execute.Goals as goal
+use Rattle.dsm_interpreter.proofs.execution.Execution.execute.Goals as goal
 
 -- a block shows the statements that lie in its vector
 pub returns-in_ok-push-in-Block : goal.returns-in_ok-push-in-Block

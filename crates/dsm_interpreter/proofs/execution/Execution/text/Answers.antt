@@ -2,11 +2,12 @@ use Rattle.std.proofs.Common.{rules, ◌≡◌, map, [], ◌∷◌, sym, ap, ◌
 use Rattle.dsm_check.specs.Views.{view_part}
 use Rattle.dsm_semantics.specs.Within.{AreItemsWithin, most_bytes}
 use Rattle.dsm_interpreter.specs.declared.item.Item.{Item}
-use Rattle.dsm_interpreter.specs.Lines.{IsLine, Grows}
+use Rattle.dsm_base.specs.Output.{IsLine}
+use Rattle.dsm_interpreter.specs.Lines.{Grows}
 use Rattle.dsm_interpreter.specs.Threads.{item_of}
 use Rattle.dsm_interpreter.proofs.Lines.{print_fits}
-use Rattle.dsm_interpreter.proofs.thread.PlainThread.text.Goals as goal
-use Rattle.dsm_interpreter.proofs.thread.PlainThread.text.Goals.{in-Some+in-Print+in_ok-write_parts, in-Some+in_default-item, in_default}
+use Rattle.dsm_interpreter.proofs.execution.Execution.text.Goals as goal
+use Rattle.dsm_interpreter.proofs.execution.Execution.text.Goals.{in-Some+in-Print+in_ok-write_parts, in-Some+in_default-item, in_default}
 
 pub returns-clause-line : goal.returns-clause-line
 returns-clause-line c extent within = elim c.match-top.branch [
