@@ -189,6 +189,6 @@ module _ (functions : List r.Function) where
       ∙ ap (λ (ending : Option Ending). if p == turn.proc then ending else ending_of (s.threads p)) (label_ending (s.threads turn.proc) turn.label ∙ ap (λ (ending : Option Ending). ending_after ending turn.label) (here turn.proc))
       ∙ ap (λ (ending : Option Ending). if p == turn.proc then ending_after (endings_of before turn.proc) turn.label else ending) (here p)
 
-  pub program_endings : (main private_cells procs : ℕ) (run : List Turn) (p : ℕ)
-      → ending_of ((after_run (first_state functions main private_cells procs) (program_semantics functions) run).threads p) ≡ endings_of run p
-  program_endings main private_cells procs run p = run_endings (first_state functions main private_cells procs) (first_ending main private_cells procs) run p
+  pub program_endings : (main private_cells procs : ℕ) (turns : List Turn) (p : ℕ)
+      → ending_of ((after_run (first_state functions main private_cells procs) (program_semantics functions) turns).threads p) ≡ endings_of turns p
+  program_endings main private_cells procs turns p = run_endings (first_state functions main private_cells procs) (first_ending main private_cells procs) turns p

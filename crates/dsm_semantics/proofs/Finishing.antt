@@ -43,8 +43,8 @@ IsNoStop _ = Unit {0}
 pub no_stop : (want : Want) → ((fault : Fault) (line : ℕ) → want ≡ Want.Stop fault line → ⊥) → IsNoStop want
 no_stop (Want.Stop fault line) h = h fault line refl
 no_stop Want.Quiet h = tt
-no_stop (Want.Load cell line) h = tt
-no_stop (Want.Store cell value line) h = tt
+no_stop (Want.Load number line) h = tt
+no_stop (Want.Store number value line) h = tt
 no_stop (Want.Ask lock mode line) h = tt
 no_stop (Want.Take lock mode) h = tt
 no_stop (Want.Give lock line) h = tt
