@@ -1,8 +1,8 @@
 -- What stands topmost in a stack that is kept with its top last.
 use borrow.Author.Tests.{ltb-true, ltb-false}
-use Rattle.std.proofs.Common.{Bool, true, false, nat_lt, ◌≡◌, ℕ, ◌-◌, ◌<◌, ◌≤◌, ℤ, pos, List, [], ◌∷◌, ◌++◌, length, take, drop, get_or, refl, sym, ap, ◌∙◌, arith, length-drop}
+use Rattle.std.proofs.Common.{Bool, true, false, nat_lt, ◌≡◌, ℕ, ◌-◌, ◌<◌, ◌≤◌, List, ◌++◌, length, take, drop, refl, sym, ap, ◌∙◌, arith, length-drop}
 use Rattle.std.specs.Prelude.{reverse}
-use Rattle.std.proofs.lemmas.List.{reverse-append, length-reverse, take-append-drop, take_all, take_at, drop_at, drop_all, get_or-reverse, reverse-reverse, take_rest}
+use Rattle.std.proofs.lemmas.List.{reverse-append, length-reverse, take-append-drop, take_all, take_at, drop_at, drop_all, reverse-reverse, take_rest}
 
 module _ {A : Type 0} (items : List A) (count : ℕ) where
   abbrev kept : ℕ

@@ -37,7 +37,8 @@ pub fn put_i64(out: &mut Vec<u8>, number: i64) -> Result<(), AllocError>
 /// The number in the first two bytes, which are that number's, and the bytes after them. `None` where
 /// there are fewer.
 pub fn u16_at(bytes: &[u8]) -> Option<(u16, &[u8])>
-    ensures { MatchOption result (length bytes.now < 2) (λ found. bytes.now ≡ big_bytes 2 found.0 ++ found.1.now) }
+    ensures { MatchOption result (length bytes.now < 2)
+        (λ found. bytes.now ≡ big_bytes 2 found.0 ++ found.1.now) }
 {
     if bytes.len() < 2 {
         return None;
@@ -49,7 +50,8 @@ pub fn u16_at(bytes: &[u8]) -> Option<(u16, &[u8])>
 /// The number in the first four bytes, which are that number's, and the bytes after them. `None` where
 /// there are fewer.
 pub fn u32_at(bytes: &[u8]) -> Option<(u32, &[u8])>
-    ensures { MatchOption result (length bytes.now < 4) (λ found. bytes.now ≡ big_bytes 4 found.0 ++ found.1.now) }
+    ensures { MatchOption result (length bytes.now < 4)
+        (λ found. bytes.now ≡ big_bytes 4 found.0 ++ found.1.now) }
 {
     if bytes.len() < 4 {
         return None;
@@ -61,7 +63,8 @@ pub fn u32_at(bytes: &[u8]) -> Option<(u32, &[u8])>
 /// The signed number in the first eight bytes, which are that number's, and the bytes after them.
 /// `None` where there are fewer.
 pub fn i64_at(bytes: &[u8]) -> Option<(i64, &[u8])>
-    ensures { MatchOption result (length bytes.now < 8) (λ found. bytes.now ≡ signed_bytes found.0 ++ found.1.now) }
+    ensures { MatchOption result (length bytes.now < 8)
+        (λ found. bytes.now ≡ signed_bytes found.0 ++ found.1.now) }
 {
     if bytes.len() < 8 {
         return None;

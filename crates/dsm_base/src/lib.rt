@@ -20,8 +20,6 @@ mod sink;
 mod stack;
 mod store;
 mod task;
-#[cfg(test)]
-mod tests;
 mod text;
 
 pub use act::{Act, SchedErr};

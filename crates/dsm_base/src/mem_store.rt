@@ -80,7 +80,8 @@ impl MemStore {
     /// The nth call of this kind from now on fails.
     pub fn fail(&mut self, call: CallKind, nth: u32) -> Result<(), MemFault>
         requires { 1 ≤ nth }
-        ensures plan { OnOk result (self.new.plan ≡ self.old.plan ++ record { call = call; left = nth } ∷ []) }
+        ensures plan { OnOk result (self.new.plan ≡ self.old.plan ++
+            record { call = call; left = nth } ∷ []) }
         ensures same { self.new ≡ record self.old { plan = self.new.plan } }
     {
         self.plan.add(call, nth)
@@ -90,7 +91,8 @@ impl MemStore {
     fn fails(&mut self, call: CallKind) -> bool
         ensures due { result ≡ is_due call self.old.plan }
         ensures plan { self.new.plan ≡ counted call self.old.plan }
-        ensures same { self.new ≡ record self.old { plan = self.new.plan; faults = self.new.faults } }
+        ensures same { self.new ≡ record self.old
+            { plan = self.new.plan; faults = self.new.faults } }
         ensures later { self.old.faults ≤ self.new.faults }
         ensures rose { IsTrue result → Rose self.old.faults self.new.faults }
     {

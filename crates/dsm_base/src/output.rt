@@ -32,7 +32,8 @@ pub fn fault_name(fault: Fault) -> &'static str
 
 /// The text of a fault at a line of the source.
 fn fault_text(alloc: Global, fault: Fault, line: u32) -> Result<Text, MemFault>
-    ensures { IfOk result (λ text. text ≡ codes "fault " ++ fault_name fault ++ codes " line " ++ decimal line) }
+    ensures { IfOk result (λ text. text ≡ codes "fault " ++ fault_name fault ++ codes " line " ++
+        decimal line) }
 {
     let name = fault_name(fault);
     let text = format!(in alloc; "fault {name} line {line}")?;

@@ -181,9 +181,12 @@ impl Rights {
         requires arrived { PassesBarriers (length self.old.arrived) label.now }
         requires crossed { PassesBarriers (length self.old.crossed) label.now }
         ensures held { OnOk result (held_of self.new ≡ held_after (held_of self.old) label.now) }
-        ensures arrived { OnOk result (arrived_of self.new ≡ arrived_after (arrived_of self.old) label.now) }
-        ensures crossed { OnOk result (crossed_of self.new ≡ crossed_after (crossed_of self.old) label.now) }
-        ensures sizes { (locks bars : ℕ) → HasSizes locks bars self.old → HasSizes locks bars self.new }
+        ensures arrived { OnOk result (arrived_of self.new ≡
+            arrived_after (arrived_of self.old) label.now) }
+        ensures crossed { OnOk result (crossed_of self.new ≡
+            crossed_after (crossed_of self.old) label.now) }
+        ensures sizes { (locks bars : ℕ) → HasSizes locks bars self.old →
+            HasSizes locks bars self.new }
     {
         match label {
             Label::Take(lock, mode, _) => self.held.set(lock.index(), Some(*mode)),

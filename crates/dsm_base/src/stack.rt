@@ -53,7 +53,8 @@ impl<T: Drop> Stack<T> {
 
     /// Takes the item on top.
     pub fn pop(&mut self) -> Option<T>
-        ensures { MatchOption result ((self.old ≡ []) × (self.new ≡ [])) (λ item. self.old ≡ item ∷ self.new) }
+        ensures { MatchOption result ((self.old ≡ []) × (self.new ≡ []))
+            (λ item. self.old ≡ item ∷ self.new) }
     {
         self.items.pop()
     }
@@ -76,7 +77,8 @@ impl<T: Drop + Copy> Stack<T> {
 
     /// The item on top.
     pub fn top(&self) -> Option<T>
-        ensures { MatchOption result (self.now ≡ []) (λ item. (rest : List T) × (self.now ≡ item ∷ rest)) }
+        ensures { MatchOption result (self.now ≡ [])
+            (λ item. (rest : List T) × (self.now ≡ item ∷ rest)) }
     {
         self.items.last().copied()
     }

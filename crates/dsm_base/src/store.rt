@@ -42,7 +42,8 @@ pub trait Store: Drop {
         requires unmarked { IsUnmarked slot (store_holds self.old) }
         requires room { block < store_room self.old slot }
         requires whole { IsBlock bytes.now }
-        ensures writes { Writes slot block bytes.now (store_holds self.old) (store_holds self.new) result }
+        ensures writes { Writes slot block bytes.now (store_holds self.old) (store_holds self.new)
+            result }
         ensures room { store_room self.new ≡ store_room self.old }
         ensures cause { HasFailureCause (store_faults self.old) (store_faults self.new) result };
 
