@@ -1,10 +1,9 @@
 use Rattle.std.proofs.Common.{◌≡◌, sym, subst, rules}
 use Rattle.std.specs.Prelude.{slice_get}
 use Rattle.dsm_check.specs.CheckedViews.{program_of}
-use Rattle.dsm_check.specs.Semantics.{numbered, started}
-use Rattle.dsm_check.specs.SemanticsWithin.{IsStateWithin}
+use Rattle.dsm_semantics.specs.Semantics.{numbered, started}
+use Rattle.dsm_semantics.specs.Within.{IsStateWithin, extent_in}
 use Rattle.dsm_interpreter.specs.Threads.{state_of}
-use Rattle.dsm_plain.specs.Machine.{extent_in}
 use Rattle.dsm_plain.proofs.Extents.{narrow_program, started_within}
 use Rattle.dsm_plain.proofs.States.{ready_is}
 use Rattle.dsm_plain.proofs.start.start_thread.Goals as goal

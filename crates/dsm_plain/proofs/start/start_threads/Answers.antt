@@ -2,10 +2,11 @@ use Rattle.std.proofs.Common.{◌≡◌, ◌+◌, ◌∙◌, List, [], ◌∷◌
 use Rattle.std.specs.List.{All}
 use Rattle.std.proofs.lemmas.List.{map-append, length-map, length-append}
 use Rattle.dsm_check.specs.CheckedViews.{program_of}
-use Rattle.dsm_check.specs.SemanticsWithin.{IsStateWithin}
+use Rattle.dsm_semantics.specs.Within.{IsStateWithin, extent_in}
 use Rattle.dsm_interpreter.specs.declared.thread.PlainThread.{PlainThread}
 use Rattle.dsm_interpreter.specs.Threads.{state_of}
-use Rattle.dsm_plain.specs.Machine.{extent_in, family_of, first_states, IsReady}
+use Rattle.dsm_semantics.specs.Programs.{first_states}
+use Rattle.dsm_plain.specs.Machine.{family_of, IsReady}
 use Rattle.dsm_plain.proofs.Families.{family_of_push, all_push}
 use Rattle.dsm_plain.proofs.start.start_threads.Goals as goal
 

@@ -1,9 +1,10 @@
 use Rattle.std.proofs.Common.{◌≡◌, ℕ, length, map}
 use Rattle.std.specs.List.{All}
 use Rattle.dsm_check.specs.CheckedViews.{program_of}
-use Rattle.dsm_check.specs.SemanticsWithin.{IsStateWithin}
+use Rattle.dsm_semantics.specs.Within.{IsStateWithin, extent_in}
 use Rattle.dsm_interpreter.specs.Threads.{state_of}
-use Rattle.dsm_plain.specs.Machine.{extent_in, family_of, first_states, IsReady}
+use Rattle.dsm_semantics.specs.Programs.{first_states}
+use Rattle.dsm_plain.specs.Machine.{family_of, IsReady}
 use Rattle.dsm_plain.proofs.start.start_threads.Given as goal
 
 abbrev pub invariant-loop-me : goal.invariant-loop-me

@@ -4,8 +4,8 @@ use Rattle.std.proofs.lemmas.List.Elements.{All-set}
 use Rattle.dsm_base.specs.Plain.{held_after, arrived_after, crossed_after, versions_after}
 use Rattle.dsm_check.specs.CheckedViews.{program_of}
 use Rattle.dsm_check.specs.Resolved as r
-use Rattle.dsm_check.specs.Semantics.{ready, completed}
-use Rattle.dsm_check.specs.SemanticsWithin.{extent_of, IsStateWithin}
+use Rattle.dsm_semantics.specs.Semantics.{ready, completed}
+use Rattle.dsm_semantics.specs.Within.{extent_of, IsStateWithin}
 use Rattle.dsm_interpreter.specs.Sound.{IsSoundState}
 use Rattle.dsm_interpreter.specs.Threads.{state_of}
 use Rattle.dsm_plain.specs.Labels.{TakesLocks, WritesCells, PassesBarriers}

@@ -1,5 +1,5 @@
 use Rattle.std.proofs.Common.{◌<◌, sym, subst}
-use Rattle.dsm_check.specs.SemanticsWithin.{extent_of, IsStateWithin}
+use Rattle.dsm_semantics.specs.Within.{extent_of, IsStateWithin}
 use Rattle.dsm_interpreter.specs.Threads.{state_of}
 use Rattle.dsm_plain.proofs.States.{found_has}
 use Rattle.dsm_plain.proofs.machine.Plain.label.Goals as goal

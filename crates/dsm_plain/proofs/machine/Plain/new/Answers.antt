@@ -1,7 +1,8 @@
 use Rattle.std.proofs.Common.{◌∙◌, ap, map}
 use Rattle.dsm_check.specs.CheckedViews.{program_of}
 use Rattle.dsm_interpreter.specs.Threads.{state_of}
-use Rattle.dsm_plain.specs.Machine.{family_of, first_states}
+use Rattle.dsm_semantics.specs.Programs.{first_states}
+use Rattle.dsm_plain.specs.Machine.{family_of}
 use Rattle.dsm_plain.proofs.machine.Plain.new.Goals as goal
 
 pub returns-clause-machine : goal.returns-clause-machine
