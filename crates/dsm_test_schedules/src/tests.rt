@@ -1,5 +1,4 @@
 //! What the clauses mean, by examples.
 
 mod picks;
-mod rows;
 mod schedules;

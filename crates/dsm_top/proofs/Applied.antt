@@ -12,7 +12,7 @@ use Rattle.dsm_small.specs.Meaning.{small_semantics}
 use Rattle.dsm_world.specs.Lines.{lines_of}
 use Rattle.dsm_world.specs.World.{setup_of, groups_of, units_of, records_of}
 use Rattle.dsm_top.specs.Ended.{joined, lines_of_trace, TakesFront}
-use Rattle.dsm_top.specs.Runs.{SmallWorld, first_by, first_in, FitsFirst, WroteCut}
+use Rattle.dsm_top.specs.Runs.{SmallWorld, first_by, small_kind, first_in, FitsFirst, WroteCut}
 use Rattle.dsm_top.proofs.Pieces.{part_of, next_taken}
 use Rattle.dsm_top.proofs.Units.{next_unit, front_length, lines_of_unit}
 
@@ -30,20 +30,20 @@ part_cut before after bytes ReadErr.Failed part = part
 part_cut before after bytes ReadErr.Memory part = front_part before after bytes part
 
 -- a world before a unit and after it
-module _ (old new : SmallWorld) (act : Act) (trace : groups_of new ≡ with_unit (units_of old + 1) (records_of first_by small_semantics old act) (groups_of old)) where
-  prints : (lines : List (List ℕ)) → lines ≡ lines_of (records_of first_by small_semantics old act) →
+module _ (old new : SmallWorld) (act : Act) (trace : groups_of new ≡ with_unit (units_of old + 1) (records_of small_kind first_by old act) (groups_of old)) where
+  prints : (lines : List (List ℕ)) → lines ≡ lines_of (records_of small_kind first_by old act) →
       lines_of_trace (groups_of new) ≡ lines_of_trace (groups_of old) ++ joined lines
   prints lines are =
       ap lines_of_trace trace
       ∙ (lines_of_unit (setup_of old) small_semantics (told_by (setup_of old) (first_in old) small_semantics (groups_of old)) act (units_of old + 1) (groups_of old)
       ∙ ap (λ one. lines_of_trace (groups_of old) ++ joined one) (sym are))
 
-  pub wrote_next : (held before after : Option (List ℕ)) (lines : List (List ℕ)) → lines ≡ lines_of (records_of first_by small_semantics old act) →
+  pub wrote_next : (held before after : Option (List ℕ)) (lines : List (List ℕ)) → lines ≡ lines_of (records_of small_kind first_by old act) →
       before ≡ appended held (lines_of_trace (groups_of old)) → after ≡ appended before (joined lines) → after ≡ appended held (lines_of_trace (groups_of new))
   wrote_next held before after lines are so_far more =
       next_taken held before after (lines_of_trace (groups_of old)) (joined lines) (joined lines) so_far more refl ∙ ap (appended held) (sym (prints lines are))
 
-  pub wrote_part : (held before after : Option (List ℕ)) (lines : List (List ℕ)) (e : ReadErr) → lines ≡ lines_of (records_of first_by small_semantics old act) →
+  pub wrote_part : (held before after : Option (List ℕ)) (lines : List (List ℕ)) (e : ReadErr) → lines ≡ lines_of (records_of small_kind first_by old act) →
       before ≡ appended held (lines_of_trace (groups_of old)) → TakesPart before after (joined lines) → WroteCut held after (lines_of_trace (groups_of new)) e
   wrote_part held before after lines e are so_far part =
       let all = ap (λ one. lines_of_trace (groups_of old) ++ one) (append-nil (joined lines)) ∙ sym (prints lines are) in
@@ -54,7 +54,7 @@ module _ (old new : SmallWorld) (act : Act) (trace : groups_of new ≡ with_unit
       units_of new ≡ units_of old + 1 → setup_of new ≡ setup_of old → first_in new ≡ first_in old → FitsFirst old schedule → FitsFirst new schedule
   fits_next schedule index count is inside units setup first fits =
       let done = reverse (take (units_of old) schedule) in
-      let records = records_of first_by small_semantics old act in
+      let records = records_of small_kind first_by old act in
       let here : act ≡ get_or schedule (units_of old) act = is ∙ ap (λ n. get_or schedule n act) (sym count) in
       let within : units_of old < length schedule = omega (arith, count, inside) in
       let list : reverse (take (units_of new) schedule) ≡ act ∷ done = ap (λ n. reverse (take n schedule)) units ∙ next_unit schedule (units_of old) act here within in

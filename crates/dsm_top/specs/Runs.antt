@@ -3,6 +3,7 @@ use Rattle.std.specs.Prelude.{◌≡◌, ℕ, List, take, reverse, Option}
 use Rattle.dsm_base.specs.declared.act.Act.{Act}
 use Rattle.dsm_base.specs.declared.errors.ReadErr.{ReadErr}
 use Rattle.dsm_base.specs.Sink.{TakesPart}
+use Rattle.dsm_base.specs.Threads.{Kind}
 use Rattle.dsm_trace.specs.Fits.{FitsUnits}
 use Rattle.dsm_small.specs.declared.thread.SmallMaker.{SmallMaker}
 use Rattle.dsm_small.specs.declared.thread.SmallThread.{SmallThread}
@@ -12,25 +13,30 @@ use Rattle.dsm_world.specs.declared.world.World.{World}
 use Rattle.dsm_world.specs.World.{setup_of, first_of, groups_of, units_of, IsWhole}
 use Rattle.dsm_top.specs.Ended.{TakesFront}
 
+-- a world of small threads
 abbrev pub SmallWorld : Type 0
 SmallWorld = World SmallMaker SmallThread SmallState
 
--- the state of a thread, and the first one that a maker gives it
-abbrev pub thread_state : SmallThread → SmallState
-thread_state thread = thread.state
-
+-- the first state that a maker gives a thread
 abbrev pub first_by : SmallMaker → ℕ → ℕ → SmallState
 first_by maker procs me = small_first maker.program procs me
 
-abbrev pub IsWholeWorld : SmallWorld → Type 0
-IsWholeWorld world = IsWhole thread_state first_by small_semantics world
+-- what kind of thread it is
+abbrev pub small_kind : Kind SmallThread SmallState
+small_kind = record { state = λ thread. thread.state; semantics = small_semantics }
 
+-- the world is whole
+abbrev pub IsWholeWorld : SmallWorld → Type 0
+IsWholeWorld world = IsWhole small_kind first_by world
+
+-- the first states of its threads
 abbrev pub first_in : SmallWorld → ℕ → SmallState
 first_in world = first_of first_by world
 
 -- the trace fits the first units of a schedule, as many as were applied
 abbrev pub FitsFirst : SmallWorld → List Act → Type 0
-FitsFirst world schedule = FitsUnits (setup_of world) (first_in world) small_semantics (reverse (take (units_of world) schedule)) (groups_of world)
+FitsFirst world schedule = FitsUnits (setup_of world) (first_in world) small_semantics
+    (reverse (take (units_of world) schedule)) (groups_of world)
 
 -- another state of the same world
 pub record IsSameRun (old new : SmallWorld) : Type 0 where

@@ -25,6 +25,7 @@ use dsm_base::{MemFault, Proc, ReadErr, Sink, Text, turn_line};
 use dsm_check::Checked;
 use dsm_plain::{Picked, Plain};
 use dsm_sched::Picks;
+use dsm_semantics::endings_by_labels;
 use std::alloc::Global;
 
 /// A run over one memory, and how many picks were applied.
@@ -116,6 +117,7 @@ pub(crate) fn run_picks<K: Sink>(alloc: Global, prepared: PickRun, out: &mut K) 
         (left_by K.sink_holds K.sink_faults out.old out.new result) result.status }
     ensures no_trace { result.trace ≡ [] }
 {
+    endings_by_labels();
     let procs = prepared.picks.procs;
     let Ok(mut run) = PlainRun::start(alloc, &prepared.program, procs) else {
         return Report::untraced(alloc, Status::Memory, 0);

@@ -1,7 +1,7 @@
 //! Texts with their picks, and texts that are refused.
 
-use dsm_picks::{PickEntry, read_picks};
 use dsm_base::{Proc, SchedErr};
+use dsm_sched::{PickEntry, read_picks};
 use std::test::Fail;
 
 const A: Proc = Proc(0);

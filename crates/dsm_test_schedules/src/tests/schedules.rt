@@ -1,92 +1,119 @@
-//! Texts with their units, and texts that aren't schedules.
+//! Texts with their schedules, and texts that are refused.
 
-use dsm_sched::{MOST_BYTES, read_schedule};
 use dsm_base::{Act, Proc, SchedErr};
+use dsm_sched::{Entry, MOST_BYTES, MOST_UNITS, read_schedule};
 use std::test::Fail;
 
 const A: Proc = Proc(0);
 
 const B: Proc = Proc(1);
 
-/// The one refusal.
-const REFUSED: SchedErr = SchedErr::NotBuilt { line: 0 };
-
 #[test]
-fn schedules_stand_for_units(rt: HostRuntime) -> Result<(), Fail> {
-    const TABLE: &[(&str, usize, &[Act])] = &[
-        ("procs 2", 0, &[]),
-        ("procs 2\n", 0, &[]),
-        ("\n# two processors\n \t\r\n\tprocs \t 2#2\r\n\n", 0, &[]),
-        ("procs 2\nstep 0", 1, &[Act::Step(A)]),
+fn texts_stand_for_schedules(rt: HostRuntime) -> Result<(), Fail> {
+    const TABLE: &[(&str, &[Entry])] = &[
+        ("procs 2", &[]),
+        ("\n# two processors\n \t\r\n\tprocs \t 2#2\r\n\n", &[]),
+        ("procs 2\nstep 0", &[Entry::Unit(Act::Step(A), 1)]),
         (
-            "procs 2\nstep 0\r\nstep 1\r\n",
-            2,
-            &[Act::Step(A), Act::Step(B)],
-        ),
-        (
-            "procs 2\nstep 1 3\nstep 0\n",
-            4,
-            &[Act::Step(B), Act::Step(B), Act::Step(B), Act::Step(A)],
+            "procs 2\nstep 0\r\nstep 1 3\r\n",
+            &[Entry::Unit(Act::Step(A), 1), Entry::Unit(Act::Step(B), 3)],
         ),
         (
             "procs 2\n deliver\t0 1 2 # \u{e9}\n \ndeliver 1 0",
-            3,
-            &[Act::Deliver(A, B), Act::Deliver(A, B), Act::Deliver(B, A)],
+            &[
+                Entry::Unit(Act::Deliver(A, B), 2),
+                Entry::Unit(Act::Deliver(B, A), 1),
+            ],
         ),
-        ("procs 2\nstep 0 500000\n", 500_000, &[Act::Step(A)]),
+        ("procs 2\nfinish 1000\n", &[Entry::Finish(1000)]),
         (
             "procs 2\nstep 1 499999\ndeliver 1 0",
-            500_000,
-            &[Act::Step(B)],
+            &[
+                Entry::Unit(Act::Step(B), 499_999),
+                Entry::Unit(Act::Deliver(B, A), 1),
+            ],
         ),
     ];
-    for &(text, count, first) in TABLE {
+    for &(text, entries) in TABLE {
         let schedule = read_schedule(rt.alloc(), text.as_bytes())?;
         assert_eq!(rt; schedule.procs, 2, "{text}");
-        assert_eq!(rt; schedule.units.len(), count, "{text}");
-        assert!(rt; schedule.units.as_slice().starts_with(first), "{text}");
+        assert_eq!(rt; schedule.entries.as_slice(), entries, "{text}");
+    }
+    Ok(())
+}
+
+#[test]
+fn units_come_one_by_one(rt: HostRuntime) -> Result<(), Fail> {
+    const TEXT: &str = "procs 2\nstep 1 2\nfinish 2\ndeliver 1 0\n";
+    const UNITS: &[Option<Act>] = &[
+        Some(Act::Step(B)),
+        Some(Act::Step(B)),
+        Some(Act::Step(A)),
+        Some(Act::Deliver(A, B)),
+        Some(Act::Step(B)),
+        Some(Act::Deliver(B, A)),
+        Some(Act::Step(A)),
+        Some(Act::Deliver(A, B)),
+        Some(Act::Step(B)),
+        Some(Act::Deliver(B, A)),
+        Some(Act::Deliver(B, A)),
+        None,
+    ];
+    let schedule = read_schedule(rt.alloc(), TEXT.as_bytes())?;
+    for (index, unit) in (0..).zip(UNITS) {
+        assert_eq!(rt; schedule.act(index), *unit);
     }
     Ok(())
 }
 
 #[test]
 fn other_texts_are_refused(rt: HostRuntime) -> Result<(), Fail> {
-    const TABLE: &[&str] = &[
+    const TABLE: &[(&str, SchedErr)] = &[
         // Another first entry, or none.
-        "",
-        "# procs 2\n",
-        "step 0\n",
-        "procs 3\n",
-        "procs 02\n",
-        "procs\n",
-        "procs 2 2\n",
-        "\rprocs 2\n",
+        ("", SchedErr::NoProcs),
+        ("# procs 2\n", SchedErr::NoProcs),
+        ("step 0\n", SchedErr::NoProcs),
+        ("\rprocs 2\n", SchedErr::NoProcs),
+        ("procs 02\n", SchedErr::BadEntry { line: 1 }),
+        ("procs\n", SchedErr::BadEntry { line: 1 }),
+        ("\nprocs 2 2\n", SchedErr::BadEntry { line: 2 }),
+        ("procs 1\n", SchedErr::OutOfRange { line: 1 }),
+        ("procs 17\n", SchedErr::OutOfRange { line: 1 }),
         // Words of another form.
-        "procs 2\nprocs 2\n",
-        "procs 2\nskip 0\n",
-        "procs 2\nSTEP 0\n",
-        "procs 2\nstep\n",
-        "procs 2\nstep 0 1 1\n",
-        "procs 2\ndeliver 0\n",
-        "procs 2\ndeliver 0 1 1 1\n",
-        "procs 2\nstep 0\r",
-        "procs 2\nstep 00\n",
-        "procs 2\nstep 0 01\n",
-        "procs 2\nstep 0 +1\n",
-        // Numbers out of range.
-        "procs 2\nstep 2\n",
-        "procs 2\ndeliver 0 2\n",
-        "procs 2\ndeliver 2 0\n",
-        "procs 2\ndeliver 0 0\n",
-        "procs 2\nstep 0 0\n",
-        "procs 2\nstep 0 500001\n",
-        "procs 2\nstep 0 1000000001\n",
-        "procs 2\nstep 0 4294967297\n",
-        "procs 2\nstep 0 500000\nstep 1\n",
+        ("procs 2\nprocs 2\n", SchedErr::BadEntry { line: 2 }),
+        ("procs 2\nskip 0\n", SchedErr::BadEntry { line: 2 }),
+        ("procs 2\nSTEP 0\n", SchedErr::BadEntry { line: 2 }),
+        ("procs 2\nstep\n", SchedErr::BadEntry { line: 2 }),
+        ("procs 2\nstep 0 1 1\n", SchedErr::BadEntry { line: 2 }),
+        ("procs 2\n\ndeliver 0\n", SchedErr::BadEntry { line: 3 }),
+        ("procs 2\nstep 0\r", SchedErr::BadEntry { line: 2 }),
+        ("procs 2\nstep 00\n", SchedErr::BadEntry { line: 2 }),
+        ("procs 2\nstep 0 +1\n", SchedErr::BadEntry { line: 2 }),
+        // Numbers out of their ranges.
+        ("procs 2\nstep 2\n", SchedErr::OutOfRange { line: 2 }),
+        ("procs 2\ndeliver 0 2\n", SchedErr::OutOfRange { line: 2 }),
+        ("procs 2\ndeliver 0 0\n", SchedErr::OutOfRange { line: 2 }),
+        ("procs 2\nstep 0 0\n", SchedErr::OutOfRange { line: 2 }),
+        ("procs 2\nstep 0 500001\n", SchedErr::OutOfRange { line: 2 }),
+        // Too many units.
+        (
+            "procs 2\nstep 0 500000\nstep 1\n",
+            SchedErr::TooMany { count: 500_001 },
+        ),
+        // What can't be run yet.
+        ("procs 3\n", SchedErr::NotBuilt { line: 1 }),
+        ("procs 2\nstep 0\nckpt 0\n", SchedErr::NotBuilt { line: 3 }),
+        ("procs 2\ncrash 0\nrestart 0\n", SchedErr::NotBuilt { line: 2 }),
+        // Two crashes, and a restart without one.
+        (
+            "procs 2\ncrash 0\nrestart 0\ncrash 1\n",
+            SchedErr::SecondCrash { line: 4 },
+        ),
+        ("procs 2\nrestart 0\n", SchedErr::NoCrash { line: 2 }),
     ];
-    for &text in TABLE {
-        let refusal = read_schedule(rt.alloc(), text.as_bytes()).err();
-        assert_eq!(rt; refusal, Some(REFUSED), "{text}");
+    for &(text, refusal) in TABLE {
+        let found = read_schedule(rt.alloc(), text.as_bytes()).err();
+        assert_eq!(rt; found, Some(refusal), "{text}");
     }
     Ok(())
 }
@@ -97,9 +124,10 @@ fn bytes_have_a_limit(rt: HostRuntime) -> Result<(), Fail> {
     let mut text = Vec::from_slice(alloc, b"procs 2\nstep 1\n#")?;
     text.resize(MOST_BYTES, b'-')?;
     let schedule = read_schedule(alloc, text.as_slice())?;
-    assert_eq!(rt; schedule.units.as_slice(), [Act::Step(B)].as_slice());
+    assert_eq!(rt; schedule.act(0), Some(Act::Step(B)));
     text.push(b'-')?;
     let refusal = read_schedule(alloc, text.as_slice()).err();
-    assert_eq!(rt; refusal, Some(REFUSED));
+    assert_eq!(rt; refusal, Some(SchedErr::TooLong { bytes: 4_194_305 }));
+    assert_eq!(rt; MOST_UNITS, 500_000);
     Ok(())
 }

@@ -32,7 +32,7 @@ returns-clause-ran g c =
     let as_prepared = λ (status : Status) (ran : RanPlain program procs picks left status). subst (λ one. RanPlain one procs picks left status) same ran in
     rw c.untraced-2.ensures (inr (elim c.match-apply_picks.branch [
       | in-Ok-apply_picks w ↦
-          let ran = plain_whole program procs setup is_setup picks left within run w.finished.result w.from-status.result w.finished.ensures w.from-status.ensures w.in-Ok-apply_picks.ensures.at w.in-Ok-apply_picks.ensures.all
+          let ran = plain_whole program procs setup is_setup picks left within c.endings_by_labels.ensures run w.finished.result w.from-status.result w.finished.ensures w.from-status.ensures w.in-Ok-apply_picks.ensures.at w.in-Ok-apply_picks.ensures.all
           w.in-Ok-apply_picks.ensures.wrote in
           rw (w.status-is) (as_prepared w.from-status.result ran)
       | in-Err w ↦

@@ -5,8 +5,8 @@ use Rattle.dsm_world.specs.World.{setup_of}
 use Rattle.dsm_top.proofs.Runs.{at_two, stays, first_states}
 use Rattle.dsm_top.proofs.run.start.Goals as goal
 
-pub new-requires-3-clause-stays : goal.new-requires-3-clause-stays
-new-requires-3-clause-stays c p below =
+pub new-requires-3 : goal.new-requires-3
+new-requires-3 c p below =
     let two = at_two c.in_ok-setup.field-0 c.args.program c.args.procs c.requires c.in_ok-setup.ensures.value in
     stays c.in_ok-setup-2.setup.value c.in_ok-setup.field-0 c.in_ok-program.program c.args.program c.args.procs c.in_ok-setup-2.ensures.ok c.in_ok-program.ensures
     (ap (λ (setup : Setup). setup.procs) two ∙ sym c.requires) c.in_ok-setup.ensures.within p
