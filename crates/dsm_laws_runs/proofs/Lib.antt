@@ -9,5 +9,7 @@ pub mod Memory
 pub mod Steps
 pub mod OtherTurn
 pub mod Copies
+pub mod Epochs
+pub mod Clashes
 pub mod Swap
 mod Example

@@ -2,17 +2,19 @@
 //! takes bring up to date, and which turns may change places.
 #![tactic(auto)]
 
-ghost use Rattle.std.specs.Prelude.{◌≡◌, ◌≢◌, ℕ, Option, Some, false, List, ◌∷◌};
+ghost use Rattle.std.specs.Prelude.{◌≡◌, ◌≢◌, ℕ, ◌<◌, ◌≤◌, Option, Some, false, List, ◌∷◌};
 ghost use Rattle.dsm_base.specs.declared.names.Mode.{Mode};
 ghost use Rattle.dsm_base.specs.declared.setup.Setup.{Setup};
 ghost use Rattle.dsm_base.specs.Access.{is_exclusive};
 ghost use Rattle.dsm_base.specs.Threads.{state_after};
-ghost use Rattle.dsm_base.specs.Plain.{Turn, IsPlainRun, after_run, labels_of};
+ghost use Rattle.dsm_base.specs.declared.label.Label.{Label};
+ghost use Rattle.dsm_base.specs.Plain.{Turn, IsPlainRun, after_run, labels_of, plain_turn};
 ghost use Rattle.dsm_laws_runs.specs.OwnPart.{held_of, arrived_of, crossed_of};
 ghost use Rattle.dsm_laws_runs.specs.Versions.{AllAskFirst, SameAt, memory_at, versions_made};
 ghost use Rattle.dsm_laws_runs.specs.Steps.{Step};
 ghost use Rattle.dsm_laws_runs.specs.Agreement.{IsLockRun, Agreement};
-ghost use Rattle.dsm_laws_runs.specs.Swap.{AreFree, ChangePlaces};
+ghost use Rattle.dsm_laws_runs.specs.Epochs.{IsInStep};
+ghost use Rattle.dsm_laws_runs.specs.Swap.{clashes, AreNeighbours, IsFree, IsRunLike};
 
 use dsm_base::Task;
 
@@ -42,8 +44,22 @@ pub fn agreement<T: Task>()
     ensures { (setup : Setup) (first : ℕ → T.State) (steps : List Step) → IsLockRun setup first T.semantics steps → Agreement setup first T.semantics steps }
 {}
 
-/// Two neighbouring turns of different processors may change places, unless the later one rests on the
-/// earlier one.
+/// Nobody crosses a barrier more often than each processor has come to it, and each has come to it once
+/// more than it has crossed it where it wants to cross it, and else as often.
+pub fn crossings<T: Task>()
+    ensures came { (setup : Setup) (first : ℕ → T.State) (run : List Turn) → IsPlainRun setup first T.semantics run → let s = after_run first T.semantics run in (p q bar : ℕ) → q < setup.procs → s.crossed p bar ≤ s.arrived q bar }
+    ensures in_step { (setup : Setup) (first : ℕ → T.State) (run : List Turn) → AllAskFirst setup first T.semantics → IsPlainRun setup first T.semantics run → (p : ℕ) → p < setup.procs → (bar : ℕ) → IsInStep T.semantics (after_run first T.semantics run) p bar }
+{}
+
+/// Two processors never use one cell at once or one right after the other where one of both stores to it.
+pub fn no_clashes<T: Task>()
+    ensures at_once { (setup : Setup) (first : ℕ → T.State) (run : List Turn) → AllAskFirst setup first T.semantics → IsPlainRun setup first T.semantics run → let s = after_run first T.semantics run in (p q : ℕ) → p < setup.procs → q < setup.procs → p ≢ q → (one other : Label) → plain_turn setup T.semantics s p ≡ Some one → plain_turn setup T.semantics s q ≡ Some other → clashes one other ≡ false }
+    ensures in_turn { (setup : Setup) (first : ℕ → T.State) (before : List Turn) (earlier later : Turn) → AreNeighbours setup first T.semantics before earlier later → clashes earlier.label later.label ≡ false }
+{}
+
+/// Two neighbouring turns of different processors may change places where the later one doesn't rest on
+/// the earlier one, and only there.
 pub fn change_places<T: Task>()
-    ensures { (setup : Setup) (first : ℕ → T.State) (before : List Turn) (earlier later : Turn) → AreFree setup first T.semantics before earlier later → ChangePlaces setup first T.semantics before earlier later }
+    ensures free { (setup : Setup) (first : ℕ → T.State) (before : List Turn) (earlier later : Turn) → AreNeighbours setup first T.semantics before earlier later → IsFree first T.semantics before earlier later → IsRunLike setup first T.semantics (earlier ∷ later ∷ before) (later ∷ earlier ∷ before) }
+    ensures bound { (setup : Setup) (first : ℕ → T.State) (before : List Turn) (earlier later : Turn) → earlier.proc ≢ later.proc → IsPlainRun setup first T.semantics (earlier ∷ later ∷ before) → IsFree first T.semantics before earlier later }
 {}
