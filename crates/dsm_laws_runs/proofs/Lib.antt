@@ -6,12 +6,15 @@ pub mod Exclusion
 pub mod Versions
 pub mod Access
 pub mod Memory
-pub mod Steps
 pub mod OtherTurn
 pub mod OwnVersions
-pub mod Copies
 pub mod Epochs
 pub mod Clashes
 pub mod Swap
 pub mod Likeness
+pub mod Barriers
+pub mod OwnTurns
+pub mod Agreements
+pub mod Steps
+pub mod Copies
 mod Example

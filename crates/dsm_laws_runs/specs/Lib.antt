@@ -1,6 +1,8 @@
 pub mod OwnPart
 pub mod Versions
-pub mod Steps
-pub mod Agreement
 pub mod Epochs
 pub mod Swap
+pub mod Barriers
+pub mod Copies
+pub mod Steps
+pub mod Agreement

@@ -2,15 +2,19 @@
 //! takes bring up to date, and which turns may change places.
 #![tactic(auto)]
 
-ghost use Rattle.std.specs.Prelude.{◌≡◌, ◌≢◌, ℕ, ◌<◌, ◌≤◌, Option, Some, false, List, ◌∷◌};
+ghost use Rattle.std.specs.Prelude.{◌≡◌, ◌≢◌, ℕ, ◌<◌, ◌≤◌, Option, Some, true, false, List, ◌∷◌, ◌++◌};
 ghost use Rattle.dsm_base.specs.declared.names.Mode.{Mode};
 ghost use Rattle.dsm_base.specs.declared.setup.Setup.{Setup};
-ghost use Rattle.dsm_base.specs.Access.{is_exclusive};
 ghost use Rattle.dsm_base.specs.Threads.{state_after};
 ghost use Rattle.dsm_base.specs.declared.label.Label.{Label};
 ghost use Rattle.dsm_base.specs.Plain.{Turn, IsPlainRun, after_run, labels_of, plain_turn};
 ghost use Rattle.dsm_laws_runs.specs.OwnPart.{held_of, arrived_of, crossed_of};
 ghost use Rattle.dsm_laws_runs.specs.Versions.{AllAskFirst, SameAt, memory_at, versions_made};
+ghost use Rattle.dsm_base.specs.Access.{piece_of, is_exclusive, is_phase};
+ghost use Rattle.dsm_base.specs.declared.setup.Piece.{Piece};
+ghost use Rattle.dsm_base.specs.Agrees.{AgreesWith};
+ghost use Rattle.dsm_laws_runs.specs.Barriers.{is_bar, is_owned, stored_by, until_arrival};
+ghost use Rattle.dsm_laws_runs.specs.Copies.{OwnTurn, own_labels, newest_copy, HasCopies, CopyAgrees};
 ghost use Rattle.dsm_laws_runs.specs.Steps.{Step};
 ghost use Rattle.dsm_laws_runs.specs.Agreement.{IsLockRun, Agreement};
 ghost use Rattle.dsm_laws_runs.specs.Epochs.{IsInStep};
@@ -42,6 +46,22 @@ pub fn lock_versions<T: Task>()
 /// agrees with the run: at each lock that it holds its own copy has the memory's values.
 pub fn agreement<T: Task>()
     ensures { (setup : Setup) (first : ℕ → T.State) (steps : List Step) → IsLockRun setup first T.semantics steps → Agreement setup first T.semantics steps }
+{}
+
+/// The memory of a barrier's cell is what its owner has stored there. What the owner had stored when it came
+/// to the barrier for an epoch stays, and is what the memory has through an epoch that is none of its phases.
+pub fn barrier_cells<T: Task>()
+    ensures memory { (setup : Setup) (first : ℕ → T.State) (run : List Turn) → IsPlainRun setup first T.semantics run → (bar owner cell : ℕ) → is_owned bar owner (piece_of setup.bindings cell) ≡ true → (after_run first T.semantics run).memory cell ≡ stored_by (labels_of owner run) cell }
+    ensures kept { (bar epoch : ℕ) (newer labels : List Label) → epoch ≤ arrived_of labels bar → until_arrival bar epoch (newer ++ labels) ≡ until_arrival bar epoch labels }
+    ensures quiet { (setup : Setup) (first : ℕ → T.State) (run : List Turn) → AllAskFirst setup first T.semantics → IsPlainRun setup first T.semantics run → (bar epoch cell owner : ℕ) (piece : Piece) → piece_of setup.bindings cell ≡ Some piece → is_bar bar piece.object ≡ true → is_phase piece epoch ≡ false → crossed_of (labels_of owner run) bar ≤ epoch → stored_by (labels_of owner run) cell ≡ stored_by (until_arrival bar epoch (labels_of owner run)) cell }
+{}
+
+/// Where each take gives a processor's copy its lock's cells as they were when its version was made, and each
+/// crossing the cells of others as they were when these had come to the barrier for its epoch, its copy is at
+/// each lock and barrier what it should be (`worth`), and so the processor agrees with the run (`agrees`).
+pub fn own_copies<T: Task>()
+    ensures worth { (setup : Setup) (first : ℕ → T.State) (run : List Turn) (p : ℕ) (turns : List OwnTurn) → HasCopies setup first T.semantics run p turns → CopyAgrees setup first T.semantics run p (newest_copy turns) }
+    ensures agrees { (setup : Setup) (first : ℕ → T.State) (run : List Turn) (p : ℕ) (turns : List OwnTurn) → HasCopies setup first T.semantics run p turns → AgreesWith setup first T.semantics run p (own_labels turns) (newest_copy turns) }
 {}
 
 /// Nobody crosses a barrier more often than each processor has come to it, and each has come to it once
