@@ -14,12 +14,13 @@ use Rattle.dsm_base.specs.Access.{Rights, piece_of, is_phase, may_load, may_load
 use Rattle.dsm_base.specs.Threads.{Semantics}
 use Rattle.dsm_base.specs.Plain.{PlainState, Turn, IsPlainRun, IsPlainTurn, after_run, labels_of, seen_by, plain_turn, memory_after, arrived_after, crossed_after, held_after}
 use Rattle.dsm_base.specs.Agrees.{AgreesWith, is_between, is_between_of, is_between_at}
-use Rattle.dsm_trace.specs.Locks.{is_of_lock, is_lock}
+use Rattle.dsm_laws_runs.specs.Pieces.{is_of_lock, is_lock}
 use Rattle.dsm_base.specs.Family.{update}
 use Rattle.dsm_laws_runs.specs.OwnPart.{own_versions_of, crossed_of}
 use Rattle.dsm_laws_runs.specs.Versions.{AllAskFirst, SameAt, IsCellOf, memory_at}
 use Rattle.dsm_laws_runs.specs.Epochs.{wants_cross}
-use Rattle.dsm_laws_runs.specs.Barriers.{is_bar, is_owned, is_of_other, owner_of, stored_by, until_arrival, memory_in}
+use Rattle.dsm_laws_runs.specs.Barriers.{is_owned, is_of_other, owner_of, stored_by, until_arrival, memory_in}
+use Rattle.dsm_laws_runs.specs.Pieces.{is_bar}
 use Rattle.dsm_laws_runs.specs.Copies.{OwnTurn, own_labels, newest_copy, Memories, memories_of, IsRenewed, Renews, AreAdequate, HasCopies, AgreesAt, AgreesAtBarriers, CopyAgrees}
 use Rattle.dsm_laws_runs.proofs.Families.{update_same, for_each, all_at}
 use Rattle.dsm_laws_runs.proofs.OwnPart.{own_held, own_arrived, own_crossed, other_held, other_arrived, other_crossed, labels_mine, labels_other}

@@ -13,7 +13,8 @@ use Rattle.dsm_base.specs.Plain.{PlainState, Turn, IsPlainRun, after_run, labels
 use Rattle.dsm_laws_runs.specs.OwnPart.{arrived_of, crossed_of}
 use Rattle.dsm_laws_runs.specs.Versions.{AllAskFirst}
 use Rattle.dsm_laws_runs.specs.Epochs.{wants_cross}
-use Rattle.dsm_laws_runs.specs.Barriers.{is_bar, is_owned, is_of_other, owner_of, stored_by, until_arrival}
+use Rattle.dsm_laws_runs.specs.Barriers.{is_owned, is_of_other, owner_of, stored_by, until_arrival}
+use Rattle.dsm_laws_runs.specs.Pieces.{is_bar}
 use Rattle.dsm_laws_runs.proofs.OwnPart.{own_arrived, own_crossed, labels_mine, labels_other}
 use Rattle.dsm_laws_runs.proofs.Turns.{stores_of}
 use Rattle.dsm_laws_runs.proofs.Families.{for_each}

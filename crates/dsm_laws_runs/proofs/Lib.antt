@@ -15,6 +15,3 @@ pub mod Likeness
 pub mod Barriers
 pub mod OwnTurns
 pub mod Agreements
-pub mod Steps
-pub mod Copies
-mod Example

@@ -13,10 +13,11 @@ use Rattle.dsm_base.specs.declared.setup.Piece.{Piece}
 use Rattle.dsm_base.specs.Access.{piece_of, is_exclusive}
 use Rattle.dsm_base.specs.Threads.{Semantics}
 use Rattle.dsm_base.specs.Plain.{PlainState, Turn, IsPlainRun, after_run, plain_turn, memory_after, held_after, versions_after, labels_of}
-use Rattle.dsm_trace.specs.Locks.{is_lock, is_of_lock}
-use Rattle.dsm_trace.specs.Processor.{own_versions_after}
+use Rattle.dsm_laws_runs.specs.Pieces.{is_lock, is_of_lock}
+use Rattle.dsm_laws_runs.specs.OwnPart.{own_versions_after}
 use Rattle.dsm_laws_runs.specs.Versions.{AllAskFirst, IsCellOf, SameAt, makes_version, memory_at}
-use Rattle.dsm_laws_runs.specs.Barriers.{is_bar, is_of_other, memory_in}
+use Rattle.dsm_laws_runs.specs.Barriers.{is_of_other, memory_in}
+use Rattle.dsm_laws_runs.specs.Pieces.{is_bar}
 use Rattle.dsm_laws_runs.specs.Copies.{AgreesAt, IsRenewed, Renews, memories_of}
 use Rattle.dsm_laws_runs.proofs.Turns.{gives_of}
 use Rattle.dsm_laws_runs.proofs.Exclusion.{no_exclusive}

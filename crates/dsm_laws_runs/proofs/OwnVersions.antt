@@ -7,7 +7,7 @@ use Rattle.dsm_base.specs.declared.label.Label.{Label}
 use Rattle.dsm_base.specs.declared.setup.Setup.{Setup}
 use Rattle.dsm_base.specs.Threads.{Semantics}
 use Rattle.dsm_base.specs.Plain.{PlainState, Turn, IsPlainRun, after_run, labels_of, held_after, versions_after}
-use Rattle.dsm_trace.specs.Processor.{own_versions_after}
+use Rattle.dsm_laws_runs.specs.OwnPart.{own_versions_after}
 use Rattle.dsm_laws_runs.specs.OwnPart.{own_versions_of}
 use Rattle.dsm_laws_runs.proofs.Families.{update_same, for_each}
 use Rattle.dsm_laws_runs.proofs.OwnPart.{own_held, other_held, labels_mine, labels_other}

@@ -1,16 +1,12 @@
 -- The cells of barriers: whose they are, and what their owners had stored when they came to the barrier.
 use Rattle.std.specs.Prelude.{ℕ, ℤ, pos, Bool, false, ◌&&◌, ◌==◌, not, nat_lt, if◌then◌else◌, List, [], ◌∷◌, Option, Some, None}
 use Rattle.dsm_base.specs.declared.label.Label.{Label}
-use Rattle.dsm_base.specs.declared.setup.Object.{Object}
 use Rattle.dsm_base.specs.declared.setup.Piece.{Piece}
 use Rattle.dsm_base.specs.declared.setup.Setup.{Setup}
 use Rattle.dsm_base.specs.Access.{piece_of}
 use Rattle.dsm_base.specs.Plain.{memory_after}
 use Rattle.dsm_laws_runs.specs.OwnPart.{arrived_of}
-
-abbrev pub is_bar : ℕ → Object → Bool
-is_bar bar (Object.Lock lock) = false
-is_bar bar (Object.Bar other) = other.0 == bar
+use Rattle.dsm_laws_runs.specs.Pieces.{is_bar}
 
 -- whether a piece is one of this barrier and this owner
 abbrev pub is_owned : ℕ → ℕ → Option Piece → Bool

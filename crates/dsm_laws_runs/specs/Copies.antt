@@ -6,7 +6,7 @@ use Rattle.dsm_base.specs.declared.setup.Setup.{Setup}
 use Rattle.dsm_base.specs.Access.{piece_of}
 use Rattle.dsm_base.specs.Threads.{Semantics}
 use Rattle.dsm_base.specs.Plain.{Turn, IsPlainRun, after_run, labels_of, memory_after}
-use Rattle.dsm_trace.specs.Locks.{is_of_lock}
+use Rattle.dsm_laws_runs.specs.Pieces.{is_of_lock}
 use Rattle.dsm_laws_runs.specs.OwnPart.{own_versions_of}
 use Rattle.dsm_laws_runs.specs.Versions.{AllAskFirst, SameAt, memory_at}
 use Rattle.dsm_laws_runs.specs.Barriers.{is_owned, is_of_other, memory_in}

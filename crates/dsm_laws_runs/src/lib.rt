@@ -13,10 +13,9 @@ ghost use Rattle.dsm_laws_runs.specs.Versions.{AllAskFirst, SameAt, memory_at, v
 ghost use Rattle.dsm_base.specs.Access.{piece_of, is_exclusive, is_phase};
 ghost use Rattle.dsm_base.specs.declared.setup.Piece.{Piece};
 ghost use Rattle.dsm_base.specs.Agrees.{AgreesWith};
-ghost use Rattle.dsm_laws_runs.specs.Barriers.{is_bar, is_owned, stored_by, until_arrival};
+ghost use Rattle.dsm_laws_runs.specs.Barriers.{is_owned, stored_by, until_arrival};
+ghost use Rattle.dsm_laws_runs.specs.Pieces.{is_bar};
 ghost use Rattle.dsm_laws_runs.specs.Copies.{OwnTurn, own_labels, newest_copy, HasCopies, CopyAgrees};
-ghost use Rattle.dsm_laws_runs.specs.Steps.{Step};
-ghost use Rattle.dsm_laws_runs.specs.Agreement.{IsLockRun, Agreement};
 ghost use Rattle.dsm_laws_runs.specs.Epochs.{IsInStep};
 ghost use Rattle.dsm_laws_runs.specs.Swap.{clashes, AreNeighbours, IsFree, IsRunLike};
 
@@ -24,62 +23,56 @@ use dsm_base::Task;
 
 /// A processor's labels alone tell its thread, its holds, its arrivals and its crossings.
 pub fn own_part<T: Task>()
-    ensures thread { (first : ℕ → T.State) (run : List Turn) (p : ℕ) → (after_run first T.semantics run).threads p ≡ state_after T.semantics (first p) (labels_of p run) }
-    ensures held { (first : ℕ → T.State) (run : List Turn) (p : ℕ) → (after_run first T.semantics run).held p ≡ held_of (labels_of p run) }
-    ensures arrived { (first : ℕ → T.State) (run : List Turn) (p : ℕ) → (after_run first T.semantics run).arrived p ≡ arrived_of (labels_of p run) }
-    ensures crossed { (first : ℕ → T.State) (run : List Turn) (p : ℕ) → (after_run first T.semantics run).crossed p ≡ crossed_of (labels_of p run) }
+    ensures thread { (first : ℕ → T.State) (run : List Turn) (p : ℕ) → (after_run first T.kind.semantics run).threads p ≡ state_after T.kind.semantics (first p) (labels_of p run) }
+    ensures held { (first : ℕ → T.State) (run : List Turn) (p : ℕ) → (after_run first T.kind.semantics run).held p ≡ held_of (labels_of p run) }
+    ensures arrived { (first : ℕ → T.State) (run : List Turn) (p : ℕ) → (after_run first T.kind.semantics run).arrived p ≡ arrived_of (labels_of p run) }
+    ensures crossed { (first : ℕ → T.State) (run : List Turn) (p : ℕ) → (after_run first T.kind.semantics run).crossed p ≡ crossed_of (labels_of p run) }
 {}
 
 /// Two processors hold one lock only where both hold it shared.
 pub fn exclusive_holds<T: Task>()
-    ensures { (setup : Setup) (first : ℕ → T.State) (run : List Turn) → IsPlainRun setup first T.semantics run → let s = after_run first T.semantics run in (p q lock : ℕ) (one other : Mode) → p ≢ q → s.held p lock ≡ Some one → s.held q lock ≡ Some other → (one ≡ Mode.Shared) × (other ≡ Mode.Shared) }
+    ensures { (setup : Setup) (first : ℕ → T.State) (run : List Turn) → IsPlainRun setup first T.kind.semantics run → let s = after_run first T.kind.semantics run in (p q lock : ℕ) (one other : Mode) → p ≢ q → s.held p lock ≡ Some one → s.held q lock ≡ Some other → (one ≡ Mode.Shared) × (other ≡ Mode.Shared) }
 {}
 
 /// The version of a lock is the number of its exclusive holds that were given back, and where nobody
 /// holds it exclusively its cells are as they were when that version was made.
 pub fn lock_versions<T: Task>()
-    ensures count { (first : ℕ → T.State) (run : List Turn) (lock : ℕ) → (after_run first T.semantics run).versions lock ≡ versions_made first T.semantics run lock }
-    ensures memory { (setup : Setup) (first : ℕ → T.State) (run : List Turn) → AllAskFirst setup first T.semantics → IsPlainRun setup first T.semantics run → let s = after_run first T.semantics run in (lock : ℕ) → ((q : ℕ) → is_exclusive (s.held q lock) ≡ false) → SameAt setup lock s.memory (memory_at first T.semantics run lock (s.versions lock)) }
-{}
-
-/// Where each take brings its lock's cells as they were when its version was made, every processor
-/// agrees with the run: at each lock that it holds its own copy has the memory's values.
-pub fn agreement<T: Task>()
-    ensures { (setup : Setup) (first : ℕ → T.State) (steps : List Step) → IsLockRun setup first T.semantics steps → Agreement setup first T.semantics steps }
+    ensures count { (first : ℕ → T.State) (run : List Turn) (lock : ℕ) → (after_run first T.kind.semantics run).versions lock ≡ versions_made first T.kind.semantics run lock }
+    ensures memory { (setup : Setup) (first : ℕ → T.State) (run : List Turn) → AllAskFirst setup first T.kind.semantics → IsPlainRun setup first T.kind.semantics run → let s = after_run first T.kind.semantics run in (lock : ℕ) → ((q : ℕ) → is_exclusive (s.held q lock) ≡ false) → SameAt setup lock s.memory (memory_at first T.kind.semantics run lock (s.versions lock)) }
 {}
 
 /// The memory of a barrier's cell is what its owner has stored there. What the owner had stored when it came
 /// to the barrier for an epoch stays, and is what the memory has through an epoch that is none of its phases.
 pub fn barrier_cells<T: Task>()
-    ensures memory { (setup : Setup) (first : ℕ → T.State) (run : List Turn) → IsPlainRun setup first T.semantics run → (bar owner cell : ℕ) → is_owned bar owner (piece_of setup.bindings cell) ≡ true → (after_run first T.semantics run).memory cell ≡ stored_by (labels_of owner run) cell }
+    ensures memory { (setup : Setup) (first : ℕ → T.State) (run : List Turn) → IsPlainRun setup first T.kind.semantics run → (bar owner cell : ℕ) → is_owned bar owner (piece_of setup.bindings cell) ≡ true → (after_run first T.kind.semantics run).memory cell ≡ stored_by (labels_of owner run) cell }
     ensures kept { (bar epoch : ℕ) (newer labels : List Label) → epoch ≤ arrived_of labels bar → until_arrival bar epoch (newer ++ labels) ≡ until_arrival bar epoch labels }
-    ensures quiet { (setup : Setup) (first : ℕ → T.State) (run : List Turn) → AllAskFirst setup first T.semantics → IsPlainRun setup first T.semantics run → (bar epoch cell owner : ℕ) (piece : Piece) → piece_of setup.bindings cell ≡ Some piece → is_bar bar piece.object ≡ true → is_phase piece epoch ≡ false → crossed_of (labels_of owner run) bar ≤ epoch → stored_by (labels_of owner run) cell ≡ stored_by (until_arrival bar epoch (labels_of owner run)) cell }
+    ensures quiet { (setup : Setup) (first : ℕ → T.State) (run : List Turn) → AllAskFirst setup first T.kind.semantics → IsPlainRun setup first T.kind.semantics run → (bar epoch cell owner : ℕ) (piece : Piece) → piece_of setup.bindings cell ≡ Some piece → is_bar bar piece.object ≡ true → is_phase piece epoch ≡ false → crossed_of (labels_of owner run) bar ≤ epoch → stored_by (labels_of owner run) cell ≡ stored_by (until_arrival bar epoch (labels_of owner run)) cell }
 {}
 
 /// Where each take gives a processor's copy its lock's cells as they were when its version was made, and each
 /// crossing the cells of others as they were when these had come to the barrier for its epoch, its copy is at
 /// each lock and barrier what it should be (`worth`), and so the processor agrees with the run (`agrees`).
 pub fn own_copies<T: Task>()
-    ensures worth { (setup : Setup) (first : ℕ → T.State) (run : List Turn) (p : ℕ) (turns : List OwnTurn) → HasCopies setup first T.semantics run p turns → CopyAgrees setup first T.semantics run p (newest_copy turns) }
-    ensures agrees { (setup : Setup) (first : ℕ → T.State) (run : List Turn) (p : ℕ) (turns : List OwnTurn) → HasCopies setup first T.semantics run p turns → AgreesWith setup first T.semantics run p (own_labels turns) (newest_copy turns) }
+    ensures worth { (setup : Setup) (first : ℕ → T.State) (run : List Turn) (p : ℕ) (turns : List OwnTurn) → HasCopies setup first T.kind.semantics run p turns → CopyAgrees setup first T.kind.semantics run p (newest_copy turns) }
+    ensures agrees { (setup : Setup) (first : ℕ → T.State) (run : List Turn) (p : ℕ) (turns : List OwnTurn) → HasCopies setup first T.kind.semantics run p turns → AgreesWith setup first T.kind.semantics run p (own_labels turns) (newest_copy turns) }
 {}
 
 /// Nobody crosses a barrier more often than each processor has come to it, and each has come to it once
 /// more than it has crossed it where it wants to cross it, and else as often.
 pub fn crossings<T: Task>()
-    ensures came { (setup : Setup) (first : ℕ → T.State) (run : List Turn) → IsPlainRun setup first T.semantics run → let s = after_run first T.semantics run in (p q bar : ℕ) → q < setup.procs → s.crossed p bar ≤ s.arrived q bar }
-    ensures in_step { (setup : Setup) (first : ℕ → T.State) (run : List Turn) → AllAskFirst setup first T.semantics → IsPlainRun setup first T.semantics run → (p : ℕ) → p < setup.procs → (bar : ℕ) → IsInStep T.semantics (after_run first T.semantics run) p bar }
+    ensures came { (setup : Setup) (first : ℕ → T.State) (run : List Turn) → IsPlainRun setup first T.kind.semantics run → let s = after_run first T.kind.semantics run in (p q bar : ℕ) → q < setup.procs → s.crossed p bar ≤ s.arrived q bar }
+    ensures in_step { (setup : Setup) (first : ℕ → T.State) (run : List Turn) → AllAskFirst setup first T.kind.semantics → IsPlainRun setup first T.kind.semantics run → (p : ℕ) → p < setup.procs → (bar : ℕ) → IsInStep T.kind.semantics (after_run first T.kind.semantics run) p bar }
 {}
 
 /// Two processors never use one cell at once or one right after the other where one of both stores to it.
 pub fn no_clashes<T: Task>()
-    ensures at_once { (setup : Setup) (first : ℕ → T.State) (run : List Turn) → AllAskFirst setup first T.semantics → IsPlainRun setup first T.semantics run → let s = after_run first T.semantics run in (p q : ℕ) → p < setup.procs → q < setup.procs → p ≢ q → (one other : Label) → plain_turn setup T.semantics s p ≡ Some one → plain_turn setup T.semantics s q ≡ Some other → clashes one other ≡ false }
-    ensures in_turn { (setup : Setup) (first : ℕ → T.State) (before : List Turn) (earlier later : Turn) → AreNeighbours setup first T.semantics before earlier later → clashes earlier.label later.label ≡ false }
+    ensures at_once { (setup : Setup) (first : ℕ → T.State) (run : List Turn) → AllAskFirst setup first T.kind.semantics → IsPlainRun setup first T.kind.semantics run → let s = after_run first T.kind.semantics run in (p q : ℕ) → p < setup.procs → q < setup.procs → p ≢ q → (one other : Label) → plain_turn setup T.kind.semantics s p ≡ Some one → plain_turn setup T.kind.semantics s q ≡ Some other → clashes one other ≡ false }
+    ensures in_turn { (setup : Setup) (first : ℕ → T.State) (before : List Turn) (earlier later : Turn) → AreNeighbours setup first T.kind.semantics before earlier later → clashes earlier.label later.label ≡ false }
 {}
 
 /// Two neighbouring turns of different processors may change places where the later one doesn't rest on
 /// the earlier one, and only there.
 pub fn change_places<T: Task>()
-    ensures free { (setup : Setup) (first : ℕ → T.State) (before : List Turn) (earlier later : Turn) → AreNeighbours setup first T.semantics before earlier later → IsFree first T.semantics before earlier later → IsRunLike setup first T.semantics (earlier ∷ later ∷ before) (later ∷ earlier ∷ before) }
-    ensures bound { (setup : Setup) (first : ℕ → T.State) (before : List Turn) (earlier later : Turn) → earlier.proc ≢ later.proc → IsPlainRun setup first T.semantics (earlier ∷ later ∷ before) → IsFree first T.semantics before earlier later }
+    ensures free { (setup : Setup) (first : ℕ → T.State) (before : List Turn) (earlier later : Turn) → AreNeighbours setup first T.kind.semantics before earlier later → IsFree first T.kind.semantics before earlier later → IsRunLike setup first T.kind.semantics (earlier ∷ later ∷ before) (later ∷ earlier ∷ before) }
+    ensures bound { (setup : Setup) (first : ℕ → T.State) (before : List Turn) (earlier later : Turn) → earlier.proc ≢ later.proc → IsPlainRun setup first T.kind.semantics (earlier ∷ later ∷ before) → IsFree first T.kind.semantics before earlier later }
 {}
