@@ -22,7 +22,8 @@ use Rattle.dsm_laws_runs.specs.Epochs.{wants_cross}
 use Rattle.dsm_laws_runs.specs.Barriers.{is_owned, is_of_other, owner_of, stored_by, until_arrival, memory_in}
 use Rattle.dsm_laws_runs.specs.Pieces.{is_bar}
 use Rattle.dsm_laws_runs.specs.Copies.{OwnTurn, own_labels, newest_copy, Memories, memories_of, IsRenewed, Renews, AreAdequate, HasCopies, AgreesAt, AgreesAtBarriers, CopyAgrees}
-use Rattle.dsm_laws_runs.proofs.Families.{update_same, for_each, all_at}
+use Rattle.dsm_base.proofs.Families.{update_same, all_at}
+use Rattle.dsm_laws_runs.proofs.Each.{for_each}
 use Rattle.dsm_laws_runs.proofs.OwnPart.{own_held, own_arrived, own_crossed, other_held, other_arrived, other_crossed, labels_mine, labels_other}
 use Rattle.dsm_laws_runs.proofs.Turns.{takes_of, crosses_of}
 use Rattle.dsm_laws_runs.proofs.Versions.{take_version, version_rises}

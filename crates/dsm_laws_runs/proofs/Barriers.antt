@@ -17,7 +17,7 @@ use Rattle.dsm_laws_runs.specs.Barriers.{is_owned, is_of_other, owner_of, stored
 use Rattle.dsm_laws_runs.specs.Pieces.{is_bar}
 use Rattle.dsm_laws_runs.proofs.OwnPart.{own_arrived, own_crossed, labels_mine, labels_other}
 use Rattle.dsm_laws_runs.proofs.Turns.{stores_of}
-use Rattle.dsm_laws_runs.proofs.Families.{for_each}
+use Rattle.dsm_laws_runs.proofs.Each.{for_each}
 use Rattle.dsm_laws_runs.proofs.Epochs.{crosses_as_wanted, crossed_step, in_step, goes_over}
 
 -- Pieces of barriers.

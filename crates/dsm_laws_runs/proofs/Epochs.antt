@@ -12,7 +12,7 @@ use Rattle.dsm_base.specs.Threads.{Semantics, AsksFirst, state_after}
 use Rattle.dsm_base.specs.Plain.{PlainState, Turn, IsPlainRun, after_run, plain_after, plain_turn, plain_turn_of, arrived_after, crossed_after, can_cross, labels_of}
 use Rattle.dsm_laws_runs.specs.Versions.{AllAskFirst}
 use Rattle.dsm_laws_runs.specs.Epochs.{wants_cross, IsInStep}
-use Rattle.dsm_laws_runs.proofs.Families.{all_at, update_same}
+use Rattle.dsm_base.proofs.Families.{all_at, update_same}
 use Rattle.dsm_laws_runs.proofs.OwnPart.{own_thread}
 use Rattle.dsm_laws_runs.proofs.Turns.{Outcome, Completed, Stopped, outcome_of, crosses_of}
 

@@ -1,4 +1,4 @@
-pub mod Families
+pub mod Each
 pub mod OwnPart
 pub mod Turns
 pub mod Asking
@@ -12,6 +12,7 @@ pub mod Epochs
 pub mod Clashes
 pub mod Swap
 pub mod Likeness
+pub mod Commuting
 pub mod Barriers
 pub mod OwnTurns
 pub mod Agreements

@@ -9,7 +9,8 @@ use Rattle.dsm_base.specs.Threads.{Semantics}
 use Rattle.dsm_base.specs.Plain.{PlainState, Turn, IsPlainRun, after_run, labels_of, held_after, versions_after}
 use Rattle.dsm_laws_runs.specs.OwnPart.{own_versions_after}
 use Rattle.dsm_laws_runs.specs.OwnPart.{own_versions_of}
-use Rattle.dsm_laws_runs.proofs.Families.{update_same, for_each}
+use Rattle.dsm_base.proofs.Families.{update_same}
+use Rattle.dsm_laws_runs.proofs.Each.{for_each}
 use Rattle.dsm_laws_runs.proofs.OwnPart.{own_held, other_held, labels_mine, labels_other}
 use Rattle.dsm_laws_runs.proofs.Turns.{gives_of}
 use Rattle.dsm_laws_runs.proofs.Versions.{version_rises, version_kept, take_version}

@@ -16,7 +16,7 @@ use Rattle.dsm_base.specs.Threads.{Semantics}
 use Rattle.dsm_base.specs.Plain.{PlainState, Turn, after_run, plain_after, plain_turn, plain_turn_of, memory_after, held_after, versions_after, arrived_after, crossed_after, can_take, can_cross, may_stand_beside, labels_of}
 use Rattle.dsm_laws_runs.specs.Versions.{SameAt, makes_version, memory_at}
 use Rattle.dsm_laws_runs.specs.Swap.{rests_on, clashes, IsRunLike, AreNeighbours, IsFree}
-use Rattle.dsm_laws_runs.proofs.Families.{all_at, all_from}
+use Rattle.dsm_base.proofs.Families.{all_at, all_from}
 use Rattle.dsm_laws_runs.proofs.OwnPart.{other_thread, other_held, other_crossed}
 use Rattle.dsm_laws_runs.proofs.Turns.{takes_of, crosses_of}
 use Rattle.dsm_laws_runs.proofs.Asking.{takes_when_free}
@@ -26,15 +26,15 @@ use Rattle.dsm_laws_runs.proofs.OtherTurn.{kept_memory}
 use Rattle.dsm_laws_runs.proofs.Clashes.{neighbours_apart}
 
 -- a state in which p's turn is the same as in another: what the label depends on is the same, and what was possible is possible
-record SameFor {S : Type 0} (procs : ℕ) (s t : PlainState S) (p : ℕ) (label : Label) : Type 0 where
-  held : t.held p ≡ s.held p
-  crossed : t.crossed p ≡ s.crossed p
-  loads : (cell : Cell) (value : ℤ) → label ≡ Label.Load cell value → t.memory cell.0 ≡ s.memory cell.0
-  takes : (lock : Lock) (mode : Mode) (version : ℕ) → label ≡ Label.Take lock mode version → t.versions lock.0 ≡ s.versions lock.0
-  can_take : (lock : Lock) (mode : Mode) (version : ℕ) → label ≡ Label.Take lock mode version → can_take procs t.held p lock.0 mode ≡ true → can_take procs s.held p lock.0 mode ≡ true
-  can_cross : (bar : Bar) (epoch : ℕ) → label ≡ Label.Cross bar epoch → can_cross procs t.arrived (t.crossed p bar.0) bar.0 ≡ true → can_cross procs s.arrived (s.crossed p bar.0) bar.0 ≡ true
+pub record SameFor {S : Type 0} (procs : ℕ) (s t : PlainState S) (p : ℕ) (label : Label) : Type 0 where
+  pub held : t.held p ≡ s.held p
+  pub crossed : t.crossed p ≡ s.crossed p
+  pub loads : (cell : Cell) (value : ℤ) → label ≡ Label.Load cell value → t.memory cell.0 ≡ s.memory cell.0
+  pub takes : (lock : Lock) (mode : Mode) (version : ℕ) → label ≡ Label.Take lock mode version → t.versions lock.0 ≡ s.versions lock.0
+  pub can_take : (lock : Lock) (mode : Mode) (version : ℕ) → label ≡ Label.Take lock mode version → can_take procs t.held p lock.0 mode ≡ true → can_take procs s.held p lock.0 mode ≡ true
+  pub can_cross : (bar : Bar) (epoch : ℕ) → label ≡ Label.Cross bar epoch → can_cross procs t.arrived (t.crossed p bar.0) bar.0 ≡ true → can_cross procs s.arrived (s.crossed p bar.0) bar.0 ≡ true
 
-same_turn : {S : Type 0} (setup : Setup) (s t : PlainState S) (p : ℕ) (text : List ℕ) (want : Want) (label : Label) → SameFor setup.procs s t p label →
+pub same_turn : {S : Type 0} (setup : Setup) (s t : PlainState S) (p : ℕ) (text : List ℕ) (want : Want) (label : Label) → SameFor setup.procs s t p label →
     plain_turn_of setup t p text want ≡ Some label → plain_turn_of setup s p text want ≡ Some label
 same_turn setup s t p text want label same e = grind (arith, same.held, same.crossed, same.loads, same.takes, same.can_take, same.can_cross)
 

@@ -7,7 +7,7 @@ ghost use Rattle.dsm_base.specs.declared.names.Mode.{Mode};
 ghost use Rattle.dsm_base.specs.declared.setup.Setup.{Setup};
 ghost use Rattle.dsm_base.specs.Threads.{state_after};
 ghost use Rattle.dsm_base.specs.declared.label.Label.{Label};
-ghost use Rattle.dsm_base.specs.Plain.{Turn, IsPlainRun, after_run, labels_of, plain_turn};
+ghost use Rattle.dsm_base.specs.Plain.{PlainState, Turn, IsPlainRun, after_run, labels_of, plain_turn};
 ghost use Rattle.dsm_laws_runs.specs.OwnPart.{held_of, arrived_of, crossed_of};
 ghost use Rattle.dsm_laws_runs.specs.Versions.{AllAskFirst, SameAt, memory_at, versions_made};
 ghost use Rattle.dsm_base.specs.Access.{piece_of, is_exclusive, is_phase};
@@ -17,6 +17,7 @@ ghost use Rattle.dsm_laws_runs.specs.Barriers.{is_owned, stored_by, until_arriva
 ghost use Rattle.dsm_laws_runs.specs.Pieces.{is_bar};
 ghost use Rattle.dsm_laws_runs.specs.Copies.{OwnTurn, own_labels, newest_copy, HasCopies, CopyAgrees};
 ghost use Rattle.dsm_laws_runs.specs.Epochs.{IsInStep};
+ghost use Rattle.dsm_laws_runs.specs.Commuting.{TouchNothingInCommon, Commute};
 ghost use Rattle.dsm_laws_runs.specs.Swap.{clashes, AreNeighbours, IsFree, IsRunLike};
 
 use dsm_base::Task;
@@ -75,4 +76,10 @@ pub fn no_clashes<T: Task>()
 pub fn change_places<T: Task>()
     ensures free { (setup : Setup) (first : ℕ → T.State) (before : List Turn) (earlier later : Turn) → AreNeighbours setup first T.kind.semantics before earlier later → IsFree first T.kind.semantics before earlier later → IsRunLike setup first T.kind.semantics (earlier ∷ later ∷ before) (later ∷ earlier ∷ before) }
     ensures bound { (setup : Setup) (first : ℕ → T.State) (before : List Turn) (earlier later : Turn) → earlier.proc ≢ later.proc → IsPlainRun setup first T.kind.semantics (earlier ∷ later ∷ before) → IsFree first T.kind.semantics before earlier later }
+{}
+
+/// Turns of two threads that touch no lock, no barrier and no cell in common may be made in either order, and
+/// leave the same, in any state.
+pub fn turns_commute<T: Task>()
+    ensures { (setup : Setup) (s : PlainState T.State) (p q : ℕ) (one other : Label) → p ≢ q → plain_turn setup T.kind.semantics s p ≡ Some one → plain_turn setup T.kind.semantics s q ≡ Some other → TouchNothingInCommon one other → Commute setup T.kind.semantics s p q one other }
 {}

@@ -3,7 +3,7 @@ use Rattle.std.specs.Prelude.{◌≡◌, ◌≢◌, ℕ, zero, suc, ◌≤◌, n
 use Rattle.std.proofs.Common.{arith, refl, ap, ◌∙◌, append-nil}
 use Rattle.dsm_base.specs.declared.label.Label.{Label}
 use Rattle.dsm_base.specs.Plain.{labels_of}
-use Rattle.dsm_laws_runs.proofs.Families.{for_each}
+use Rattle.dsm_laws_runs.proofs.Each.{for_each}
 use Rattle.dsm_laws_tails.specs.Fronts.{upto, past, turns_by}
 use Rattle.dsm_laws_tails.specs.Shuffles.{IsShuffle}
 use Rattle.dsm_laws_tails.specs.Histories.{turns_of_tails}

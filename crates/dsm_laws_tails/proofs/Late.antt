@@ -14,7 +14,8 @@ use Rattle.dsm_base.specs.Plain.{PlainState, Turn, IsPlainRun, after_run, labels
 use Rattle.dsm_laws_runs.specs.OwnPart.{held_of, arrived_of, own_versions_of}
 use Rattle.dsm_laws_runs.specs.Versions.{AllAskFirst}
 use Rattle.dsm_laws_runs.specs.Swap.{rests_on, IsFree}
-use Rattle.dsm_laws_runs.proofs.Families.{update_same, for_each}
+use Rattle.dsm_base.proofs.Families.{update_same}
+use Rattle.dsm_laws_runs.proofs.Each.{for_each}
 use Rattle.dsm_laws_runs.proofs.OwnPart.{own_held, own_arrived, other_crossed}
 use Rattle.dsm_laws_runs.proofs.Turns.{gives_of}
 use Rattle.dsm_laws_runs.proofs.Asking.{takes_when_free}

@@ -12,7 +12,7 @@ use Rattle.dsm_base.specs.Plain.{Turn, IsPlainRun, IsPlainTurn, after_run, label
 use Rattle.dsm_laws_runs.specs.OwnPart.{held_of, arrived_of}
 use Rattle.dsm_laws_runs.specs.Versions.{AllAskFirst}
 use Rattle.dsm_laws_runs.specs.Swap.{rests_on, IsRunLike}
-use Rattle.dsm_laws_runs.proofs.Families.{for_each}
+use Rattle.dsm_laws_runs.proofs.Each.{for_each}
 use Rattle.dsm_laws_runs.proofs.OwnPart.{labels_mine, labels_other}
 use Rattle.dsm_laws_runs.proofs.Swap.{change_places}
 use Rattle.dsm_laws_runs.proofs.Likeness.{like_itself, then_like, more_like}
