@@ -64,7 +64,7 @@ module _ {S : Type 0} (setup : Setup) (first : ℕ → S) (threads : Semantics S
       (λ ne. rw (labels_other owner turn before ne) refl)
       (cases_eq turn.proc owner)
 
-  known_before : (memories : Memories) (turn : Turn) (before : List Turn) → turn.proc < setup.procs → AreKnown setup first threads memories (turn ∷ before) → AreKnown setup first threads memories before
+  pub known_before : (memories : Memories) (turn : Turn) (before : List Turn) → turn.proc < setup.procs → AreKnown setup first threads memories (turn ∷ before) → AreKnown setup first threads memories before
   known_before memories turn before lt known = record {
     at_version = λ lock version le cell is.
         known.at_version lock version (omega (arith, le, version_rises first threads turn before lock)) cell is ∙ ap (λ memory. memory cell) (memory_at_turn first threads turn before lock version le);
@@ -73,24 +73,51 @@ module _ {S : Type 0} (setup : Setup) (first : ℕ → S) (threads : Semantics S
         ∙ epoch_kept turn before lt bar epoch cell (owner_of (piece_of setup.bindings cell)) le;
   }
 
-  -- what a turn makes of a copy by such memories it makes of it by the run before it
-  renews_known : (memories : Memories) (before : List Turn) → AreKnown setup first threads memories before → (p : ℕ) (label : Label) → plain_turn setup threads (after_run first threads before) p ≡ Some label →
-      (copy now : ℕ → ℤ) → Renews setup memories p label copy now → Renews setup (memories_of setup first threads before) p label copy now
-  renews_known memories before known p (Label.Take lock mode version) turn copy now renews =
+  -- what a turn makes of a copy by one of two such memories it makes of it by the other
+  pub renews_same : (memories others : Memories) (before : List Turn) → AreKnown setup first threads memories before → AreKnown setup first threads others before →
+      (p : ℕ) (label : Label) → plain_turn setup threads (after_run first threads before) p ≡ Some label → (copy now : ℕ → ℤ) → Renews setup memories p label copy now → Renews setup others p label copy now
+  renews_same memories others before known also p (Label.Take lock mode version) turn copy now renews =
       let is : version ≡ (after_run first threads before).versions lock.0 = take_version first threads setup before p lock mode version turn in
-      record { inside = λ cell in_lock. renews.inside cell in_lock ∙ known.at_version lock.0 version (omega arith) cell in_lock; outside = renews.outside }
-  renews_known memories before known p (Label.Cross bar epoch) turn copy now renews =
-      let cross = crosses_of setup (after_run first threads before) p _ _ bar epoch turn in
       record {
-        inside = λ cell in_bar. renews.inside cell in_bar
-            ∙ known.in_epoch bar.0 epoch cell (λ lt. come ((after_run first threads before).crossed p bar.0) ((after_run first threads before).arrived (owner_of (piece_of setup.bindings cell)) bar.0) epoch cross.is_epoch
-            (all_at setup.procs (λ q. nat_lt ((after_run first threads before).crossed p bar.0) ((after_run first threads before).arrived q bar.0)) (owner_of (piece_of setup.bindings cell)) lt cross.possible));
+        inside = λ cell in_lock. renews.inside cell in_lock ∙ known.at_version lock.0 version (omega arith) cell in_lock ∙ sym (also.at_version lock.0 version (omega arith) cell in_lock);
+        outside = renews.outside;
+      }
+  renews_same memories others before known also p (Label.Cross bar epoch) turn copy now renews =
+      record {
+        inside = λ cell in_bar. renews.inside cell in_bar ∙ known.in_epoch bar.0 epoch cell (come cell) ∙ sym (also.in_epoch bar.0 epoch cell (come cell));
         outside = renews.outside;
       }
     where
-      come : (crossed arrived epoch : ℕ) → epoch ≡ crossed + 1 → nat_lt crossed arrived ≡ true → epoch ≤ arrived
-      come crossed arrived epoch is less = grind arith
-  renews_known memories before known p label turn copy now renews = renews
+      come_at : (crossed arrived epoch : ℕ) → epoch ≡ crossed + 1 → nat_lt crossed arrived ≡ true → epoch ≤ arrived
+      come_at crossed arrived epoch is less = grind arith
+
+      come : (cell : ℕ) → owner_of (piece_of setup.bindings cell) < setup.procs → epoch ≤ (after_run first threads before).arrived (owner_of (piece_of setup.bindings cell)) bar.0
+      come cell lt =
+          let cross = crosses_of setup (after_run first threads before) p _ _ bar epoch turn in
+          come_at ((after_run first threads before).crossed p bar.0) ((after_run first threads before).arrived (owner_of (piece_of setup.bindings cell)) bar.0) epoch cross.is_epoch
+          (all_at setup.procs (λ q. nat_lt ((after_run first threads before).crossed p bar.0) ((after_run first threads before).arrived q bar.0)) (owner_of (piece_of setup.bindings cell)) lt cross.possible)
+  renews_same memories others before known also p label turn copy now renews = renews
+
+  -- and so do all turns
+  pub adequate_same : (memories others : Memories) (run : List Turn) → IsPlainRun setup first threads run → AreKnown setup first threads memories run → AreKnown setup first threads others run →
+      (p : ℕ) (turns : List OwnTurn) → labels_of p run ≡ own_labels turns → AreAdequate setup memories p turns → AreAdequate setup others p turns
+  adequate_same memories others run is_run known also p [] same adequate = tt
+  adequate_same memories others [] is_run known also p (own ∷ older) same adequate = absurd (cc same)
+  adequate_same memories others (turn ∷ before) is_run known also p (own ∷ older) same adequate =
+      let known' : AreKnown setup first threads memories before = known_before memories turn before is_run.1.is_processor known in
+      let also' : AreKnown setup first threads others before = known_before others turn before is_run.1.is_processor also in
+      ⊎_elim
+      (λ mine.
+      let both : turn.label ∷ labels_of p before ≡ own.label ∷ own_labels older = sym (labels_mine p turn before mine) ∙ same in
+      let is_label : turn.label ≡ own.label = cc in
+      let rest : labels_of p before ≡ own_labels older = cc in
+      (
+        adequate_same memories others before is_run.0 known' also' p older rest adequate.0,
+        renews_same memories others before known' also' p own.label
+            (subst (λ p. plain_turn setup threads (after_run first threads before) p ≡ Some own.label) mine (rw (← is_label) is_run.1.is_label)) (newest_copy older) own.copy adequate.1,
+      ))
+      (λ ne. adequate_same memories others before is_run.0 known' also' p (own ∷ older) (sym (labels_other p turn before ne) ∙ same) adequate)
+      (cases_eq turn.proc p)
 
 -- Pieces that are bound to barriers.
 
@@ -223,7 +250,7 @@ module _ {S : Type 0} (setup : Setup) (first : ℕ → S) (threads : Semantics S
       let is_label : own.label ≡ turn.label = cc in
       let rest : labels_of p before ≡ own_labels older = cc in
       own_agrees turn before is_run mine (newest_copy older) own.copy
-      (renews_known setup first threads memories before known' p turn.label (subst (λ p. plain_turn setup threads (after_run first threads before) p ≡ Some turn.label) mine is_run.1.is_label) (newest_copy older) own.copy
+      (renews_same setup first threads memories (memories_of setup first threads before) before known' (known_itself setup first threads before) p turn.label (subst (λ p. plain_turn setup threads (after_run first threads before) p ≡ Some turn.label) mine is_run.1.is_label) (newest_copy older) own.copy
       (subst (λ label. Renews setup memories p label (newest_copy older) own.copy) is_label adequate.1))
       (copy_agrees before is_run.0 known' older rest adequate.0))
       (λ ne. other_agrees turn before is_run ne own.copy (copy_agrees before is_run.0 known' (own ∷ older) (sym (labels_other p turn before ne) ∙ same) adequate))

@@ -16,3 +16,4 @@ pub mod Commuting
 pub mod Barriers
 pub mod OwnTurns
 pub mod Agreements
+pub mod CopiesKept

@@ -2,12 +2,12 @@
 //! takes bring up to date, and which turns may change places.
 #![tactic(auto)]
 
-ghost use Rattle.std.specs.Prelude.{◌≡◌, ◌≢◌, ℕ, ◌<◌, ◌≤◌, Option, Some, true, false, List, ◌∷◌, ◌++◌};
+ghost use Rattle.std.specs.Prelude.{◌≡◌, ◌≢◌, ℕ, ℤ, ◌<◌, ◌≤◌, Option, Some, true, false, List, ◌∷◌, ◌++◌};
 ghost use Rattle.dsm_base.specs.declared.names.Mode.{Mode};
 ghost use Rattle.dsm_base.specs.declared.setup.Setup.{Setup};
 ghost use Rattle.dsm_base.specs.Threads.{state_after};
 ghost use Rattle.dsm_base.specs.declared.label.Label.{Label};
-ghost use Rattle.dsm_base.specs.Plain.{PlainState, Turn, IsPlainRun, after_run, labels_of, plain_turn};
+ghost use Rattle.dsm_base.specs.Plain.{PlainState, Turn, IsPlainRun, IsPlainTurn, after_run, labels_of, plain_turn};
 ghost use Rattle.dsm_laws_runs.specs.OwnPart.{held_of, arrived_of, crossed_of};
 ghost use Rattle.dsm_laws_runs.specs.Versions.{AllAskFirst, SameAt, memory_at, versions_made};
 ghost use Rattle.dsm_base.specs.Access.{piece_of, is_exclusive, is_phase};
@@ -15,7 +15,7 @@ ghost use Rattle.dsm_base.specs.declared.setup.Piece.{Piece};
 ghost use Rattle.dsm_base.specs.Agrees.{AgreesWith};
 ghost use Rattle.dsm_laws_runs.specs.Barriers.{is_owned, stored_by, until_arrival};
 ghost use Rattle.dsm_laws_runs.specs.Pieces.{is_bar};
-ghost use Rattle.dsm_laws_runs.specs.Copies.{OwnTurn, own_labels, newest_copy, HasCopies, CopyAgrees};
+ghost use Rattle.dsm_laws_runs.specs.Copies.{OwnTurn, own_labels, newest_copy, memories_of, Renews, HasCopies, CopyAgrees};
 ghost use Rattle.dsm_laws_runs.specs.Epochs.{IsInStep};
 ghost use Rattle.dsm_laws_runs.specs.Commuting.{TouchNothingInCommon, Commute};
 ghost use Rattle.dsm_laws_runs.specs.Swap.{clashes, AreNeighbours, IsFree, IsRunLike};
@@ -56,6 +56,14 @@ pub fn barrier_cells<T: Task>()
 pub fn own_copies<T: Task>()
     ensures worth { (setup : Setup) (first : ℕ → T.State) (run : List Turn) (p : ℕ) (turns : List OwnTurn) → HasCopies setup first T.kind.semantics run p turns → CopyAgrees setup first T.kind.semantics run p (newest_copy turns) }
     ensures agrees { (setup : Setup) (first : ℕ → T.State) (run : List Turn) (p : ℕ) (turns : List OwnTurn) → HasCopies setup first T.kind.semantics run p turns → AgreesWith setup first T.kind.semantics run p (own_labels turns) (newest_copy turns) }
+{}
+
+/// A processor's copies stay what they should be in a run that is like it, and with one turn more: another's,
+/// or an own one that makes of the copy what it should by the run before it.
+pub fn copies_go_on<T: Task>()
+    ensures alike { (setup : Setup) (first : ℕ → T.State) (run other : List Turn) (p : ℕ) (turns : List OwnTurn) → HasCopies setup first T.kind.semantics run p turns → IsRunLike setup first T.kind.semantics other run → HasCopies setup first T.kind.semantics other p turns }
+    ensures other { (setup : Setup) (first : ℕ → T.State) (run : List Turn) (p : ℕ) (turns : List OwnTurn) → HasCopies setup first T.kind.semantics run p turns → (turn : Turn) → IsPlainTurn setup T.kind.semantics (after_run first T.kind.semantics run) turn → turn.proc ≢ p → HasCopies setup first T.kind.semantics (turn ∷ run) p turns }
+    ensures own { (setup : Setup) (first : ℕ → T.State) (run : List Turn) (p : ℕ) (turns : List OwnTurn) → HasCopies setup first T.kind.semantics run p turns → (turn : Turn) → IsPlainTurn setup T.kind.semantics (after_run first T.kind.semantics run) turn → turn.proc ≡ p → (now : ℕ → ℤ) → Renews setup (memories_of setup first T.kind.semantics run) p turn.label (newest_copy turns) now → HasCopies setup first T.kind.semantics (turn ∷ run) p (record { label = turn.label; copy = now } ∷ turns) }
 {}
 
 /// Nobody crosses a barrier more often than each processor has come to it, and each has come to it once

@@ -4,3 +4,4 @@ pub mod Shuffles
 pub mod Fronts
 pub mod Histories
 pub mod Tails
+pub mod Copies

@@ -1,12 +1,13 @@
 //! Laws of unsettled turns: which turns after a settled run may come in any order, and how a history goes on.
 #![tactic(auto)]
 
-ghost use Rattle.std.specs.Prelude.{◌≡◌, ℕ, ◌≤◌, List, [], ◌∷◌, ◌++◌};
+ghost use Rattle.std.specs.Prelude.{◌≡◌, ◌≢◌, ℕ, ◌≤◌, List, [], ◌∷◌, ◌++◌, length};
 ghost use Rattle.dsm_base.specs.declared.label.Label.{Label};
 ghost use Rattle.dsm_base.specs.declared.setup.Setup.{Setup};
 ghost use Rattle.dsm_base.specs.Plain.{Turn, IsPlainRun, IsPlainTurn, after_run, labels_of};
 ghost use Rattle.dsm_laws_runs.specs.Versions.{AllAskFirst, SameAt, memory_at};
 ghost use Rattle.dsm_laws_runs.specs.Swap.{IsRunLike};
+ghost use Rattle.dsm_laws_runs.specs.Copies.{OwnTurn, HasCopies};
 ghost use Rattle.dsm_laws_tails.specs.Shuffles.{IsShuffle, AreApart, AreIndependent, CanShuffle};
 ghost use Rattle.dsm_laws_tails.specs.Fronts.{upto, past, turns_by, AreWith};
 ghost use Rattle.dsm_laws_tails.specs.Histories.{whole_of, IsHistory, IsHistoryLike};
@@ -50,4 +51,11 @@ pub fn history_goes_on<T: Task>()
     ensures loses { (setup : Setup) (first : ℕ → T.State) (settled : List Turn) (tails : ℕ → List Label) → IsHistory setup first T.kind.semantics settled tails → (p k : ℕ) (others : ℕ → List Label) → AreWith tails p (upto k (tails p)) others → IsHistory setup first T.kind.semantics settled others }
     ensures versions_left { (setup : Setup) (first : ℕ → T.State) (settled : List Turn) (tails : ℕ → List Label) → IsHistory setup first T.kind.semantics settled tails → (p k : ℕ) (others : ℕ → List Label) → AreWith tails p (upto k (tails p)) others → (lock version : ℕ) → version ≤ (after_run first T.kind.semantics (whole_of setup settled others)).versions lock → SameAt setup lock (memory_at first T.kind.semantics (whole_of setup settled others) lock version) (memory_at first T.kind.semantics (whole_of setup settled tails) lock version) }
     ensures course { (setup : Setup) (first : ℕ → T.State) (settled : List Turn) (tails : ℕ → List Label) → IsHistory setup first T.kind.semantics settled tails → (p : ℕ) → labels_of p (whole_of setup settled tails) ≡ tails p ++ labels_of p settled }
+{}
+
+/// Where turns of a history are lost, the copies of the others stay what they should be, and so do the copies
+/// of the one that loses them up to there. (Where a history goes on or turns settle, `copies_go_on` says so.)
+pub fn copies_left<T: Task>()
+    ensures others { (setup : Setup) (first : ℕ → T.State) (settled : List Turn) (tails : ℕ → List Label) → IsHistory setup first T.kind.semantics settled tails → (p k : ℕ) (others : ℕ → List Label) → AreWith tails p (upto k (tails p)) others → (q : ℕ) → p ≢ q → (turns : List OwnTurn) → HasCopies setup first T.kind.semantics (whole_of setup settled tails) q turns → HasCopies setup first T.kind.semantics (whole_of setup settled others) q turns }
+    ensures own { (setup : Setup) (first : ℕ → T.State) (settled : List Turn) (tails : ℕ → List Label) → IsHistory setup first T.kind.semantics settled tails → (p k : ℕ) (others : ℕ → List Label) → AreWith tails p (upto k (tails p)) others → (newest oldest : List OwnTurn) → length newest ≡ length (past k (tails p)) → HasCopies setup first T.kind.semantics (whole_of setup settled tails) p (newest ++ oldest) → HasCopies setup first T.kind.semantics (whole_of setup settled others) p oldest }
 {}
