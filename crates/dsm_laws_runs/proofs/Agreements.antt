@@ -1,37 +1,32 @@
 -- Agreement: where turns make of the own copy what they should, it has the memory's values at each cell that its processor may load.
-use Rattle.std.specs.Prelude.{◌≡◌, ◌≢◌, ℕ, ℤ, pos, ◌+◌, ◌<◌, ◌≤◌, nat_lt, ◌&&◌, ◌||◌, ◌==◌, not, Bool, true, false, if◌then◌else◌, List, [], ◌∷◌, map, Option, Some, None, is_some}
+use Rattle.std.specs.Prelude.{◌≡◌, ◌≢◌, ℕ, ℤ, ◌+◌, ◌<◌, ◌≤◌, nat_lt, ◌&&◌, ◌||◌, ◌==◌, not, Bool, true, false, if◌then◌else◌, List, [], ◌∷◌, Option, Some, None}
 use Rattle.std.proofs.Common.{arith, refl, sym, ap, subst, ◌∙◌, ⊎_elim}
-use Rattle.std.proofs.lemmas.Bool.{cases_Bool, cases_eq, cases_lt}
-use Rattle.dsm_base.specs.declared.names.Lock.{Lock}
+use Rattle.std.proofs.lemmas.Bool.{cases_eq}
 use Rattle.dsm_base.specs.declared.names.Bar.{Bar}
-use Rattle.dsm_base.specs.declared.names.Cell.{Cell}
-use Rattle.dsm_base.specs.declared.names.Mode.{Mode}
 use Rattle.dsm_base.specs.declared.label.Label.{Label}
 use Rattle.dsm_base.specs.declared.setup.Object.{Object}
 use Rattle.dsm_base.specs.declared.setup.Piece.{Piece}
 use Rattle.dsm_base.specs.declared.setup.Setup.{Setup}
-use Rattle.dsm_base.specs.Access.{Rights, piece_of, is_phase, may_load, may_load_of, may_load_piece}
+use Rattle.dsm_base.specs.Access.{piece_of, is_phase, may_load, may_load_of, may_load_piece}
 use Rattle.dsm_base.specs.Threads.{Semantics}
-use Rattle.dsm_base.specs.Plain.{PlainState, Turn, IsPlainRun, IsPlainTurn, after_run, labels_of, seen_by, plain_turn, memory_after, arrived_after, crossed_after, held_after}
+use Rattle.dsm_base.specs.Plain.{PlainState, Turn, IsPlainRun, after_run, labels_of, seen_by, plain_turn, memory_after, arrived_after, crossed_after, held_after}
 use Rattle.dsm_base.specs.Agrees.{AgreesWith, is_between, is_between_of, is_between_at}
 use Rattle.dsm_laws_runs.specs.Pieces.{is_of_lock, is_lock}
 use Rattle.dsm_base.specs.Family.{update}
 use Rattle.dsm_laws_runs.specs.OwnPart.{own_versions_of, crossed_of}
-use Rattle.dsm_laws_runs.specs.Versions.{AllAskFirst, SameAt, IsCellOf, memory_at}
-use Rattle.dsm_laws_runs.specs.Epochs.{wants_cross}
+use Rattle.dsm_laws_runs.specs.Versions.{AllAskFirst, SameAt, memory_at}
 use Rattle.dsm_laws_runs.specs.Barriers.{is_owned, is_of_other, owner_of, stored_by, until_arrival, memory_in}
 use Rattle.dsm_laws_runs.specs.Pieces.{is_bar}
-use Rattle.dsm_laws_runs.specs.Copies.{OwnTurn, own_labels, newest_copy, Memories, memories_of, IsRenewed, Renews, AreAdequate, HasCopies, AgreesAt, AgreesAtBarriers, CopyAgrees}
+use Rattle.dsm_laws_runs.specs.Copies.{OwnTurn, own_labels, newest_copy, Memories, memories_of, Renews, AreAdequate, HasCopies, AgreesAtBarriers, CopyAgrees}
 use Rattle.dsm_base.proofs.Families.{update_same, all_at}
 use Rattle.dsm_laws_runs.proofs.Each.{for_each}
 use Rattle.dsm_laws_runs.proofs.OwnPart.{own_held, own_arrived, own_crossed, other_held, other_arrived, other_crossed, labels_mine, labels_other}
-use Rattle.dsm_laws_runs.proofs.Turns.{takes_of, crosses_of}
+use Rattle.dsm_laws_runs.proofs.Turns.{crosses_of}
 use Rattle.dsm_laws_runs.proofs.Versions.{take_version, version_rises}
 use Rattle.dsm_laws_runs.proofs.Memory.{memory_at_turn}
-use Rattle.dsm_laws_runs.proofs.Access.{may_load_is}
 use Rattle.dsm_laws_runs.proofs.OtherTurn.{other_turn}
 use Rattle.dsm_laws_runs.proofs.OwnTurns.{carried, own_turn}
-use Rattle.dsm_laws_runs.proofs.Epochs.{in_step, all_came, arrived_step, comes_to}
+use Rattle.dsm_laws_runs.proofs.Epochs.{all_came, arrived_step, comes_to}
 use Rattle.dsm_laws_runs.proofs.Barriers.{other_owned, until_more, others_leave, store_same, owned_memory, quiet_run}
 
 -- Memories that a run has, as far as it has come.
@@ -110,8 +105,7 @@ module _ {S : Type 0} (setup : Setup) (first : ℕ → S) (threads : Semantics S
       (λ mine.
       let both : turn.label ∷ labels_of p before ≡ own.label ∷ own_labels older = sym (labels_mine p turn before mine) ∙ same in
       let is_label : turn.label ≡ own.label = cc in
-      let rest : labels_of p before ≡ own_labels older = cc in
-      (
+      let rest : labels_of p before ≡ own_labels older = cc in (
         adequate_same memories others before is_run.0 known' also' p older rest adequate.0,
         renews_same memories others before known' also' p own.label
             (subst (λ p. plain_turn setup threads (after_run first threads before) p ≡ Some own.label) mine (rw (← is_label) is_run.1.is_label)) (newest_copy older) own.copy adequate.1,

@@ -1,7 +1,8 @@
 -- The memory of a barrier's cell is what its owner has stored there, and outside its phases the owner stores nothing.
-use Rattle.std.specs.Prelude.{◌≡◌, ◌≢◌, ℕ, ℤ, ◌+◌, ◌<◌, ◌≤◌, nat_lt, ◌==◌, Bool, true, false, if◌then◌else◌, List, [], ◌∷◌, ◌++◌, Option, Some, None}
-use Rattle.std.proofs.Common.{arith, refl, sym, ◌∙◌, ⊎_elim}
+use Rattle.std.specs.Prelude.{◌≡◌, ◌≢◌, ℕ, ℤ, ◌+◌, ◌<◌, ◌≤◌, Bool, true, false, if◌then◌else◌, List, [], ◌∷◌, ◌++◌, Option, Some, None}
+use Rattle.std.proofs.Common.{arith, refl, ◌∙◌, ⊎_elim}
 use Rattle.std.proofs.lemmas.Bool.{cases_eq, cases_lt}
+use Rattle.dsm_base.specs.declared.names.Bar.{Bar}
 use Rattle.dsm_base.specs.declared.names.Cell.{Cell}
 use Rattle.dsm_base.specs.declared.label.Label.{Label}
 use Rattle.dsm_base.specs.declared.setup.Object.{Object}
@@ -45,7 +46,7 @@ until_more bar k label before le = grind arith
 pub until_now : (bar k : ℕ) (label : Label) (before : List Label) → arrived_of before bar < k → until_arrival bar k (label ∷ before) ≡ label ∷ before
 until_now bar k label before lt = grind arith
 
-arrived_rises : (label : Label) (before : List Label) (bar : ℕ) → arrived_of before bar ≤ arrived_of (label ∷ before) bar
+pub arrived_rises : (label : Label) (before : List Label) (bar : ℕ) → arrived_of before bar ≤ arrived_of (label ∷ before) bar
 arrived_rises label before bar = grind arith
 
 -- what was stored up to an arrival that has been made stays
@@ -80,6 +81,22 @@ module _ {S : Type 0} (setup : Setup) (first : ℕ → S) (threads : Semantics S
       (λ ne. rw (labels_other owner turn before ne) (others_leave setup threads s bar owner cell is turn.proc turn.label is_run.1.is_label ne s.memory ∙ owned_memory before is_run.0))
       (cases_eq turn.proc owner)
 
+-- who makes a turn that is no crossing has come to a barrier as often as it has crossed it
+pub settled_at : {S : Type 0} (setup : Setup) (first : ℕ → S) (threads : Semantics S) → AllAskFirst setup first threads → (bar : ℕ) (before : List Turn) → IsPlainRun setup first threads before →
+    (r : ℕ) → r < setup.procs → (label : Label) → plain_turn setup threads (after_run first threads before) r ≡ Some label → ((other : Bar) (epoch : ℕ) → label ≡ Label.Cross other epoch → ⊥) →
+    (after_run first threads before).arrived r bar ≡ (after_run first threads before).crossed r bar
+settled_at setup first threads ask_first bar before is_run r lt label turn none =
+    come ((after_run first threads before).arrived r bar) ((after_run first threads before).crossed r bar) (in_step setup first threads ask_first before is_run r lt bar)
+    (crosses_as_wanted setup (after_run first threads before) r _ _ label turn bar ∙ no_cross label none)
+  where
+    come : (arrived crossed : ℕ) → arrived ≡ (if wants_cross bar (threads.want ((after_run first threads before).threads r)) then crossed + 1 else crossed) →
+        wants_cross bar (threads.want ((after_run first threads before).threads r)) ≡ false → arrived ≡ crossed
+    come arrived crossed is none = is ∙ rw none refl
+
+    no_cross : (label : Label) → ((other : Bar) (epoch : ℕ) → label ≡ Label.Cross other epoch → ⊥) → goes_over bar label ≡ false
+    no_cross (Label.Cross crossed epoch) none = absurd (none crossed epoch refl)
+    no_cross _ none = refl
+
 -- In an epoch that is none of the owner's phases.
 module _ {S : Type 0} (setup : Setup) (first : ℕ → S) (threads : Semantics S) (ask_first : AllAskFirst setup first threads) (bar cell : ℕ) (piece : Piece)
     (is_piece : piece_of setup.bindings cell ≡ Some piece) (is_bar_piece : is_bar bar piece.object ≡ true) (k : ℕ) (quiet : is_phase piece k ≡ false) where
@@ -89,15 +106,10 @@ module _ {S : Type 0} (setup : Setup) (first : ℕ → S) (threads : Semantics S
       (is_phase piece ((after_run first threads before).crossed r bar) ≡ true) × ((after_run first threads before).arrived r bar ≡ (after_run first threads before).crossed r bar)
   stores_in_phase before is_run r lt stored value at_cell turn =
       let s : PlainState S = after_run first threads before in
-      let may : may_store setup.bindings r (seen_by s r).rights cell ≡ true = rw (← at_cell) (stores_of setup s r _ _ stored value turn) in
-      (
+      let may : may_store setup.bindings r (seen_by s r).rights cell ≡ true = rw (← at_cell) (stores_of setup s r _ _ stored value turn) in (
         (store_of bar piece.owner r (seen_by s r).rights piece piece.object is_bar_piece (rw is_piece at may)).1,
-        come s.arrived s.crossed (in_step setup first threads ask_first before is_run r lt bar) (crosses_as_wanted setup s r _ _ (Label.Store stored value) turn bar),
+        settled_at setup first threads ask_first bar before is_run r lt (Label.Store stored value) turn (λ other epoch e. cc e),
       )
-    where
-      come : (arrived crossed : ℕ → ℕ → ℕ) → arrived r bar ≡ (if wants_cross bar (threads.want ((after_run first threads before).threads r)) then crossed r bar + 1 else crossed r bar) →
-          wants_cross bar (threads.want ((after_run first threads before).threads r)) ≡ false → arrived r bar ≡ crossed r bar
-      come arrived crossed is none = is ∙ rw none refl
 
   -- what an owner has stored in the cell is what it had when it came to the barrier for the epoch
   abbrev IsQuiet : List Label → Type 0

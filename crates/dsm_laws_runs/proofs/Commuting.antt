@@ -1,16 +1,12 @@
 -- Turns that touch nothing in common may be made in either order.
-use Rattle.std.specs.Prelude.{◌≡◌, ◌≢◌, ℕ, ℤ, false, List, Option, Some}
+use Rattle.std.specs.Prelude.{◌≡◌, ◌≢◌, ℕ, ℤ, false, Option, Some}
 use Rattle.std.proofs.Common.{arith, refl, sym, ◌∙◌}
-use Rattle.dsm_base.specs.declared.names.Lock.{Lock}
-use Rattle.dsm_base.specs.declared.names.Bar.{Bar}
-use Rattle.dsm_base.specs.declared.names.Cell.{Cell}
 use Rattle.dsm_base.specs.declared.names.Mode.{Mode}
 use Rattle.dsm_base.specs.declared.label.Label.{Label}
-use Rattle.dsm_base.specs.declared.label.Want.{Want}
 use Rattle.dsm_base.specs.declared.setup.Setup.{Setup}
 use Rattle.dsm_base.specs.Family.{update}
 use Rattle.dsm_base.specs.Threads.{Semantics}
-use Rattle.dsm_base.specs.Plain.{PlainState, plain_after, plain_turn, plain_turn_of, memory_after, held_after, versions_after, arrived_after, can_take, can_cross}
+use Rattle.dsm_base.specs.Plain.{PlainState, plain_after, plain_turn, memory_after, held_after, versions_after, arrived_after}
 use Rattle.dsm_base.proofs.Families.{all_same}
 use Rattle.dsm_laws_runs.proofs.OwnPart.{other_thread, other_held, other_crossed}
 use Rattle.dsm_laws_runs.proofs.Swap.{SameFor, same_turn, same_state}

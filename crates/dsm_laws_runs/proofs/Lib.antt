@@ -17,3 +17,5 @@ pub mod Barriers
 pub mod OwnTurns
 pub mod Agreements
 pub mod CopiesKept
+pub mod Newer
+pub mod ArrivalLines

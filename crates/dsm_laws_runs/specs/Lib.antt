@@ -6,3 +6,4 @@ pub mod Swap
 pub mod Commuting
 pub mod Barriers
 pub mod Copies
+pub mod Newer

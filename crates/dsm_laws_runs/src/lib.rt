@@ -2,18 +2,21 @@
 //! takes bring up to date, and which turns may change places.
 #![tactic(auto)]
 
-ghost use Rattle.std.specs.Prelude.{◌≡◌, ◌≢◌, ℕ, ℤ, ◌<◌, ◌≤◌, Option, Some, true, false, List, ◌∷◌, ◌++◌};
+ghost use Rattle.std.specs.Prelude.{◌≡◌, ◌≢◌, ℕ, ℤ, ◌+◌, nat_lt, ◌<◌, ◌≤◌, Option, Some, true, false, List, ◌∷◌, ◌++◌};
+ghost use Rattle.dsm_base.specs.declared.names.Bar.{Bar};
+ghost use Rattle.dsm_base.specs.declared.names.Lock.{Lock};
 ghost use Rattle.dsm_base.specs.declared.names.Mode.{Mode};
 ghost use Rattle.dsm_base.specs.declared.setup.Setup.{Setup};
 ghost use Rattle.dsm_base.specs.Threads.{state_after};
 ghost use Rattle.dsm_base.specs.declared.label.Label.{Label};
 ghost use Rattle.dsm_base.specs.Plain.{PlainState, Turn, IsPlainRun, IsPlainTurn, after_run, labels_of, plain_turn};
 ghost use Rattle.dsm_laws_runs.specs.OwnPart.{held_of, arrived_of, crossed_of};
-ghost use Rattle.dsm_laws_runs.specs.Versions.{AllAskFirst, SameAt, memory_at, versions_made};
+ghost use Rattle.dsm_laws_runs.specs.Versions.{AllAskFirst, IsCellOf, SameAt, memory_at, versions_made};
 ghost use Rattle.dsm_base.specs.Access.{piece_of, is_exclusive, is_phase};
 ghost use Rattle.dsm_base.specs.declared.setup.Piece.{Piece};
 ghost use Rattle.dsm_base.specs.Agrees.{AgreesWith};
-ghost use Rattle.dsm_laws_runs.specs.Barriers.{is_owned, stored_by, until_arrival};
+ghost use Rattle.dsm_laws_runs.specs.Barriers.{is_owned, stored_by, until_arrival, memory_in};
+ghost use Rattle.dsm_laws_runs.specs.Newer.{is_newer, stamp_of, is_stored_in, with_newer, is_brought, is_arrived};
 ghost use Rattle.dsm_laws_runs.specs.Pieces.{is_bar};
 ghost use Rattle.dsm_laws_runs.specs.Copies.{OwnTurn, own_labels, newest_copy, memories_of, Renews, HasCopies, CopyAgrees};
 ghost use Rattle.dsm_laws_runs.specs.Epochs.{IsInStep};
@@ -64,6 +67,24 @@ pub fn copies_go_on<T: Task>()
     ensures alike { (setup : Setup) (first : ℕ → T.State) (run other : List Turn) (p : ℕ) (turns : List OwnTurn) → HasCopies setup first T.kind.semantics run p turns → IsRunLike setup first T.kind.semantics other run → HasCopies setup first T.kind.semantics other p turns }
     ensures other { (setup : Setup) (first : ℕ → T.State) (run : List Turn) (p : ℕ) (turns : List OwnTurn) → HasCopies setup first T.kind.semantics run p turns → (turn : Turn) → IsPlainTurn setup T.kind.semantics (after_run first T.kind.semantics run) turn → turn.proc ≢ p → HasCopies setup first T.kind.semantics (turn ∷ run) p turns }
     ensures own { (setup : Setup) (first : ℕ → T.State) (run : List Turn) (p : ℕ) (turns : List OwnTurn) → HasCopies setup first T.kind.semantics run p turns → (turn : Turn) → IsPlainTurn setup T.kind.semantics (after_run first T.kind.semantics run) turn → turn.proc ≡ p → (now : ℕ → ℤ) → Renews setup (memories_of setup first T.kind.semantics run) p turn.label (newest_copy turns) now → HasCopies setup first T.kind.semantics (turn ∷ run) p (record { label = turn.label; copy = now } ∷ turns) }
+{}
+
+/// However cells are put into lines: a line that isn't newer than a version, up to another, has the same cells
+/// at both (`unchanged`), which is settled once the versions are made (`later`) and can be told by a stamp
+/// (`stamps`). A take that brings only the newer lines of its lock makes of the copy what it should (`take`).
+pub fn newer_lines<T: Task>()
+    ensures unchanged { (line_at : ℕ → ℕ) (setup : Setup) (first : ℕ → T.State) (run : List Turn) (lock from to cell : ℕ) → IsCellOf setup lock cell → from ≤ to → to ≤ (after_run first T.kind.semantics run).versions lock → is_newer line_at setup first T.kind.semantics run lock from to (line_at cell) ≡ false → memory_at first T.kind.semantics run lock from cell ≡ memory_at first T.kind.semantics run lock to cell }
+    ensures later { (line_at : ℕ → ℕ) (setup : Setup) (first : ℕ → T.State) (turn : Turn) (before : List Turn) (lock from to line : ℕ) → to ≤ (after_run first T.kind.semantics before).versions lock → is_newer line_at setup first T.kind.semantics (turn ∷ before) lock from to line ≡ is_newer line_at setup first T.kind.semantics before lock from to line }
+    ensures stamps { (line_at : ℕ → ℕ) (setup : Setup) (first : ℕ → T.State) (run : List Turn) (lock from to line : ℕ) → is_newer line_at setup first T.kind.semantics run lock from to line ≡ nat_lt from (stamp_of line_at setup first T.kind.semantics run lock to line) }
+    ensures take { (line_at : ℕ → ℕ) (setup : Setup) (first : ℕ → T.State) (run : List Turn) (p : ℕ) (turns : List OwnTurn) → HasCopies setup first T.kind.semantics run p turns → (lock : Lock) (mode : Mode) (version : ℕ) → IsPlainTurn setup T.kind.semantics (after_run first T.kind.semantics run) (record { proc = p; label = Label.Take lock mode version }) → (now : ℕ → ℤ) → ((cell : ℕ) → now cell ≡ with_newer (is_brought line_at setup first T.kind.semantics run p lock.0 version) (memory_at first T.kind.semantics run lock.0 version) (newest_copy turns) cell) → Renews setup (memories_of setup first T.kind.semantics run) p (Label.Take lock mode version) (newest_copy turns) now }
+{}
+
+/// The same of barriers: a line to which its owner didn't store in an epoch has the same cells in the next one
+/// (`unchanged`), and a crossing that brings only the lines of others to which they stored in the epoch before
+/// makes of the copy what it should (`cross`).
+pub fn arrival_lines<T: Task>()
+    ensures unchanged { (line_at : ℕ → ℕ) (setup : Setup) (first : ℕ → T.State) (run : List Turn) → AllAskFirst setup first T.kind.semantics → IsPlainRun setup first T.kind.semantics run → (bar owner epoch cell : ℕ) → is_owned bar owner (piece_of setup.bindings cell) ≡ true → is_stored_in line_at setup bar owner epoch (labels_of owner run) (line_at cell) ≡ false → stored_by (until_arrival bar (epoch + 1) (labels_of owner run)) cell ≡ stored_by (until_arrival bar epoch (labels_of owner run)) cell }
+    ensures cross { (line_at : ℕ → ℕ) (setup : Setup) (first : ℕ → T.State) (run : List Turn) (p : ℕ) (turns : List OwnTurn) → HasCopies setup first T.kind.semantics run p turns → (bar : Bar) (epoch : ℕ) → IsPlainTurn setup T.kind.semantics (after_run first T.kind.semantics run) (record { proc = p; label = Label.Cross bar (epoch + 1) }) → (now : ℕ → ℤ) → ((cell : ℕ) → now cell ≡ with_newer (is_arrived line_at setup run p bar.0 epoch) (memory_in setup (λ q. labels_of q run) bar.0 (epoch + 1)) (newest_copy turns) cell) → Renews setup (memories_of setup first T.kind.semantics run) p (Label.Cross bar (epoch + 1)) (newest_copy turns) now }
 {}
 
 /// Nobody crosses a barrier more often than each processor has come to it, and each has come to it once

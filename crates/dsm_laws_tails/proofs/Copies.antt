@@ -1,13 +1,13 @@
 -- Own copies as a history goes on.
-use Rattle.std.specs.Prelude.{◌≡◌, ◌≢◌, ℕ, ℤ, suc, List, [], ◌∷◌, ◌++◌, length}
-use Rattle.std.proofs.Common.{arith, refl, sym, ap, ◌∙◌}
+use Rattle.std.specs.Prelude.{◌≡◌, ◌≢◌, ℕ, suc, List, [], ◌∷◌, ◌++◌, length}
+use Rattle.std.proofs.Common.{arith, refl, sym}
 use Rattle.dsm_base.specs.declared.label.Label.{Label}
 use Rattle.dsm_base.specs.declared.setup.Setup.{Setup}
 use Rattle.dsm_base.specs.Threads.{Semantics}
-use Rattle.dsm_base.specs.Plain.{Turn, IsPlainTurn, after_run}
+use Rattle.dsm_base.specs.Plain.{Turn}
 use Rattle.dsm_laws_runs.specs.Swap.{IsRunLike}
 use Rattle.dsm_laws_runs.specs.Copies.{OwnTurn, HasCopies}
-use Rattle.dsm_laws_runs.proofs.CopiesKept.{copies_alike, copies_other, copies_own, copies_less_other, copies_less_own}
+use Rattle.dsm_laws_runs.proofs.CopiesKept.{copies_alike, copies_less_other, copies_less_own}
 use Rattle.dsm_laws_tails.specs.Fronts.{upto, past, turns_by, AreWith}
 use Rattle.dsm_laws_tails.specs.Histories.{whole_of, IsHistory}
 use Rattle.dsm_laws_tails.proofs.Fronts.{past_upto}
