@@ -57,12 +57,7 @@ pub fn start_threads<'a>(
 }
 
 /// The rights of all processors: none holds a lock, and none has come to a barrier.
-pub fn start_rights(
-    alloc: Global,
-    procs: u8,
-    locks: u16,
-    bars: u8,
-) -> Result<Vec<Rights>, MemFault>
+pub fn start_rights(alloc: Global, procs: u8, locks: u16, bars: u8) -> Result<Vec<Rights>, MemFault>
     ensures count { IfOk result (λ rights. length rights.items ≡ procs) }
     ensures held { IfOk result (λ rights. (p : ℕ) →
         held_of (rights_at rights.items p) ≡ (λ lock. None)) }

@@ -29,7 +29,7 @@ returns-in_default-clause-state c =
     let functions = functions_of c.args.self.now in
     let s = state_of c.args.self.now in
     let told = c.requires.1.told in
-    let other = subst IsNoStop told (no_stop (told_by c.args.self.now) (λ fault line is. c.in_default.not-Stop ?)) in
+    let other = subst IsNoStop told (no_stop (told_by c.args.self.now) c.in_default.not-Stop) in
     on_ok c.finish.result c.finish.ensures
     (λ is label completes.
     is ∙ ap (all_finished functions s s.todo) (to_z-of_z w64 c.args.answer c.ranges.answer)
