@@ -43,7 +43,8 @@ fn declarators_behind(
     cursor: &mut Cursor<'_>,
     first: Declarator,
 ) -> Result<Vec<Declarator>, Refusal>
-    ensures { Gives (λ all. all.items) (gathered (first ∷ []) (more_of r.declarator) cursor.old) result cursor.new }
+    ensures { Gives (λ all. all.items) (gathered (first ∷ []) (more_of r.declarator) cursor.old)
+        result cursor.new }
 {
     let mut all = Vec::new(alloc);
     all.push(first)?;

@@ -22,11 +22,12 @@ const CHOICE: u8 = 1;
 /// What may stand behind an operator that has one side.
 const UNARY: u8 = 12;
 
-/// Reads an expression that has at most so many nodes on a way down. The cursor is left at a token that is refused:
+/// Reads an expression that has at most so many nodes on a way down. The cursor is left at a token
+/// that is refused:
 ///
 /// - `Unexpected` comes for the first token with which no expression goes on.
 /// - `TooHigh` comes for the first one with which only higher expressions do.
-/// - `Memory` comes for want of memory.
+/// - `Memory` comes where memory runs out.
 pub fn expression(
     alloc: Global,
     cursor: &mut Cursor<'_>,
@@ -50,7 +51,8 @@ fn none_fits(begins: bool) -> Refusal
     }
 }
 
-/// Passes over a token that makes a node over what is so high, where at most so many levels may be below a node.
+/// Passes over a token that makes a node over what is so high, where at most so many levels may be
+/// below a node.
 fn rise(cursor: &mut Cursor<'_>, depth: u32, height: u32) -> Result<(), Refusal>
     ensures taken { OnOk result ((height ≤ depth) × (cursor.new ≡ tail cursor.old)) }
     ensures refused { OnErr result ((depth < height) × (cursor.new ≡ cursor.old)) }
@@ -71,7 +73,8 @@ fn at_least(
     most: u32,
     least: u8,
 ) -> Result<Measured<Expression>, Refusal>
-    ensures read { Gives (λ e. view e.tree) ((below most).at_least least cursor.old) result cursor.new }
+    ensures read { Gives (λ e. view e.tree) ((below most).at_least least cursor.old)
+        result cursor.new }
     ensures height { IfOk result (λ e. e.height ≡ height (view e.tree)) }
     ensures low { IfOk result (λ e. e.height ≤ most) }
 {
@@ -105,7 +108,8 @@ fn place_behind(
     name: Name,
 ) -> Result<Measured<Place>, Refusal>
     requires { depth + 1 < 2 ^ 32 }
-    ensures read { Gives (λ p. view_place p.tree) (reader.place_behind depth (below depth) name cursor.old) result cursor.new }
+    ensures read { Gives (λ p. view_place p.tree)
+        (reader.place_behind depth (below depth) name cursor.old) result cursor.new }
     ensures height { IfOk result (λ p. p.height ≡ height_place (view_place p.tree)) }
     ensures low { IfOk result (λ p. p.height ≤ depth + 1) }
 {
@@ -133,7 +137,9 @@ fn stepped(
     requires depth { depth + 1 < 2 ^ 32 }
     requires height { place.height ≡ height_place (view_place place.tree) }
     requires low { place.height ≤ depth + 1 }
-    ensures read { Gives (λ e. view e.tree) (reader.stepped depth (below depth) (view_place place.tree) cursor.old) result cursor.new }
+    ensures read { Gives (λ e. view e.tree)
+        (reader.stepped depth (below depth) (view_place place.tree) cursor.old)
+        result cursor.new }
     ensures height { IfOk result (λ e. e.height ≡ height (view e.tree)) }
     ensures low { IfOk result (λ e. e.height ≤ depth + 1) }
 {
@@ -153,9 +159,14 @@ fn stepped(
 
 /// Reads what stands between operators that have two sides.
 #[cycle(expression)]
-fn operand(alloc: Global, cursor: &mut Cursor<'_>, depth: u32) -> Result<Measured<Expression>, Refusal>
+fn operand(
+    alloc: Global,
+    cursor: &mut Cursor<'_>,
+    depth: u32,
+) -> Result<Measured<Expression>, Refusal>
     requires { depth + 1 < 2 ^ 32 }
-    ensures read { Gives (λ e. view e.tree) (reader.operand depth (below depth) cursor.old) result cursor.new }
+    ensures read { Gives (λ e. view e.tree) (reader.operand depth (below depth) cursor.old)
+        result cursor.new }
     ensures height { IfOk result (λ e. e.height ≡ height (view e.tree)) }
     ensures low { IfOk result (λ e. e.height ≤ depth + 1) }
 {
@@ -216,7 +227,8 @@ fn named(
     name: Name,
 ) -> Result<Measured<Expression>, Refusal>
     requires { depth + 1 < 2 ^ 32 }
-    ensures read { Gives (λ e. view e.tree) (reader.named_behind depth (below depth) name cursor.old) result cursor.new }
+    ensures read { Gives (λ e. view e.tree)
+        (reader.named_behind depth (below depth) name cursor.old) result cursor.new }
     ensures height { IfOk result (λ e. e.height ≡ height (view e.tree)) }
     ensures low { IfOk result (λ e. e.height ≤ depth + 1) }
 {
@@ -249,8 +261,10 @@ fn arguments(
 ) -> Result<Measured<Vec<Expression>>, Refusal>
     requires depth { depth + 1 < 2 ^ 32 }
     requires over { 1 ≤ depth }
-    ensures read { Gives (λ list. map view list.tree.items) (list_of ((below depth).at_least 0) cursor.old) result cursor.new }
-    ensures height { IfOk result (λ list. list.height ≡ height_arguments (expressions (map view list.tree.items))) }
+    ensures read { Gives (λ list. map view list.tree.items)
+        (list_of ((below depth).at_least 0) cursor.old) result cursor.new }
+    ensures height { IfOk result
+        (λ list. list.height ≡ height_arguments (expressions (map view list.tree.items))) }
     ensures low { IfOk result (λ list. list.height ≤ depth) }
 {
     let first = at_least(alloc, cursor, depth, ANY)?;
@@ -278,7 +292,9 @@ fn climb(
     requires depth { depth + 1 < 2 ^ 32 }
     requires height { first.height ≡ height (view first.tree) }
     requires low { first.height ≤ depth + 1 }
-    ensures read { Gives (λ e. view e.tree) (reader.climb depth (below depth) depth least (view first.tree) cursor.old) result cursor.new }
+    ensures read { Gives (λ e. view e.tree)
+        (reader.climb depth (below depth) depth least (view first.tree) cursor.old)
+        result cursor.new }
     ensures height { IfOk result (λ e. e.height ≡ height (view e.tree)) }
     ensures low { IfOk result (λ e. e.height ≤ depth + 1) }
 {
@@ -306,7 +322,9 @@ fn operation(
     requires depth { depth + 1 < 2 ^ 32 }
     requires height { left.height ≡ height (view left.tree) }
     requires low { left.height ≤ depth }
-    ensures read { Gives (λ e. view e.tree) (reader.operation depth (below depth) (Some (operator, line)) (view left.tree) cursor.old) result cursor.new }
+    ensures read { Gives (λ e. view e.tree)
+        (reader.operation depth (below depth) (Some (operator, line)) (view left.tree) cursor.old)
+        result cursor.new }
     ensures height { IfOk result (λ e. e.height ≡ height (view e.tree)) }
     ensures low { IfOk result (λ e. e.height ≤ depth + 1) }
     ensures risen { IfOk result (λ e. left.height + 1 ≤ e.height) }
@@ -349,7 +367,9 @@ fn choice(
     requires depth { depth + 1 < 2 ^ 32 }
     requires height { test.height ≡ height (view test.tree) }
     requires low { test.height ≤ depth }
-    ensures read { Gives (λ e. view e.tree) (reader.operation depth (below depth) (Some (Infix.Question, line)) (view test.tree) cursor.old) result cursor.new }
+    ensures read { Gives (λ e. view e.tree)
+        (reader.operation depth (below depth) (Some (Infix.Question, line)) (view test.tree)
+        cursor.old) result cursor.new }
     ensures height { IfOk result (λ e. e.height ≡ height (view e.tree)) }
     ensures low { IfOk result (λ e. e.height ≤ depth + 1) }
     ensures risen { IfOk result (λ e. test.height + 1 ≤ e.height) }

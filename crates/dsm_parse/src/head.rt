@@ -30,7 +30,8 @@ pub fn unless_sign(
 ) -> Result<Option<Expression>, Refusal>
     requires depth { most < 2 ^ 28 }
     requires plain { is_placed_sign sign ≡ false }
-    ensures { Gives (option_view view) (reader.unless_sign sign (expression most) cursor.old) result cursor.new }
+    ensures { Gives (option_view view) (reader.unless_sign sign (expression most) cursor.old)
+        result cursor.new }
 {
     if cursor.is_sign(sign) {
         return Ok(None);

@@ -24,7 +24,8 @@ fn part(alloc: Global, cursor: &mut Cursor<'_>, most: u32) -> Result<Part, Refus
 /// Reads parts of a print, parted by commas.
 pub fn parts(alloc: Global, cursor: &mut Cursor<'_>, most: u32) -> Result<Vec<Part>, Refusal>
     requires { most < 2 ^ 28 }
-    ensures { Gives (λ all. map view_part all.items) (list_of (reader.part most) cursor.old) result cursor.new }
+    ensures { Gives (λ all. map view_part all.items) (list_of (reader.part most) cursor.old)
+        result cursor.new }
 {
     let mut all = Vec::new(alloc);
     all.push(part(alloc, cursor, most)?)?;

@@ -48,10 +48,11 @@ fn read(alloc: Global, tokens: &[Token], most: u32) -> Result<Vec<dsm_syntax::It
 
 /// The tree of a program that the tokens spell.
 ///
-/// - `Unexpected` comes for the first token at which no program begins with the tokens up to it, with its line. The end
-///   of the text is a last token, in the line of the token before it.
-/// - `Limit` of `Nesting` comes, with 65, for the first token at which only programs with a function higher than 64 do.
-/// - `Memory` comes for want of memory.
+/// - `Unexpected` comes for the first token at which no program begins with the tokens up to it,
+///   with its line. The end of the text is a last token, in the line of the token before it.
+/// - `Limit` of `Nesting` comes, with 65, for the first token at which only programs with a
+///   function higher than 64 do.
+/// - `Memory` comes where memory runs out.
 pub fn parse(alloc: Global, tokens: &Tokens) -> Result<Tree, ProgErr>
     ensures found { IfOk result (λ tree. IsProgramOf (lexemes tokens.now) (view_tree tree)) }
     ensures refused { IfErr result (IsRefused tokens.now) }

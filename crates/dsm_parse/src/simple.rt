@@ -78,7 +78,8 @@ pub fn expression_statement(
     below: u32,
 ) -> Result<Statement, Refusal>
     requires { below < 2 ^ 28 }
-    ensures { Gives view_statement (reader.expression_statement below cursor.old) result cursor.new }
+    ensures { Gives view_statement (reader.expression_statement below cursor.old)
+        result cursor.new }
 {
     let value = expression(alloc, cursor, below)?.tree;
     cursor.expect(Sign::Semicolon)?;

@@ -8,7 +8,7 @@ ghost use Rattle.dsm_laws_grammar.specs.Statements as reader;
 
 use crate::head::{for_head, test};
 use crate::simple::{barrier, declaration, deeper, expression_statement, lock, print, return_at};
-use dsm_syntax::{Cursor, Refusal, Sign, StatementKind, Statement, Word};
+use dsm_syntax::{Cursor, Refusal, Sign, Statement, StatementKind, Word};
 use std::alloc::Global;
 
 /// Whether a token comes next that doesn't close the block.
@@ -22,7 +22,8 @@ fn goes_on(cursor: &Cursor<'_>) -> bool
 #[cycle(statement)]
 fn statements(alloc: Global, cursor: &mut Cursor<'_>, most: u32) -> Result<Vec<Statement>, Refusal>
     requires { most < 2 ^ 28 }
-    ensures { Gives (λ all. view_statements all.items) (reader.statements (reader.statement most) cursor.old) result cursor.new }
+    ensures { Gives (λ all. view_statements all.items)
+        (reader.statements (reader.statement most) cursor.old) result cursor.new }
 {
     let mut all = Vec::new(alloc);
     while goes_on(cursor) {
@@ -36,7 +37,9 @@ fn statements(alloc: Global, cursor: &mut Cursor<'_>, most: u32) -> Result<Vec<S
 #[cycle(statement)]
 fn branches(alloc: Global, cursor: &mut Cursor<'_>, below: u32) -> Result<Statement, Refusal>
     requires { below < 2 ^ 28 }
-    ensures { Gives view_statement (reader.statement_by below (reader.statement below) StatementKind.If cursor.old) result cursor.new }
+    ensures { Gives view_statement
+        (reader.statement_by below (reader.statement below) StatementKind.If cursor.old)
+        result cursor.new }
 {
     deeper(cursor, below)?;
     let test = test(alloc, cursor, below)?;
@@ -53,7 +56,9 @@ fn branches(alloc: Global, cursor: &mut Cursor<'_>, below: u32) -> Result<Statem
 #[cycle(statement)]
 fn while_loop(alloc: Global, cursor: &mut Cursor<'_>, below: u32) -> Result<Statement, Refusal>
     requires { below < 2 ^ 28 }
-    ensures { Gives view_statement (reader.statement_by below (reader.statement below) StatementKind.While cursor.old) result cursor.new }
+    ensures { Gives view_statement
+        (reader.statement_by below (reader.statement below) StatementKind.While cursor.old)
+        result cursor.new }
 {
     deeper(cursor, below)?;
     let test = test(alloc, cursor, below)?;
@@ -65,7 +70,9 @@ fn while_loop(alloc: Global, cursor: &mut Cursor<'_>, below: u32) -> Result<Stat
 #[cycle(statement)]
 fn for_loop(alloc: Global, cursor: &mut Cursor<'_>, below: u32) -> Result<Statement, Refusal>
     requires { below < 2 ^ 28 }
-    ensures { Gives view_statement (reader.statement_by below (reader.statement below) StatementKind.For cursor.old) result cursor.new }
+    ensures { Gives view_statement
+        (reader.statement_by below (reader.statement below) StatementKind.For cursor.old)
+        result cursor.new }
 {
     deeper(cursor, below)?;
     let head = for_head(alloc, cursor, below)?;
@@ -75,7 +82,8 @@ fn for_loop(alloc: Global, cursor: &mut Cursor<'_>, below: u32) -> Result<Statem
 
 /// Reads a statement of one word, a `break` or a `continue`.
 fn jump(cursor: &mut Cursor<'_>, statement: Statement) -> Result<Statement, Refusal>
-    ensures { Gives view_statement (ended_by Sign.Semicolon (view_statement statement) (tail cursor.old)) result cursor.new }
+    ensures { Gives view_statement
+        (ended_by Sign.Semicolon (view_statement statement) (tail cursor.old)) result cursor.new }
 {
     cursor.skip();
     cursor.expect(Sign::Semicolon)?;
@@ -91,7 +99,8 @@ fn statement_by(
     kind: StatementKind,
 ) -> Result<Statement, Refusal>
     requires { below < 2 ^ 28 }
-    ensures { Gives view_statement (reader.statement_by below (reader.statement below) kind cursor.old) result cursor.new }
+    ensures { Gives view_statement
+        (reader.statement_by below (reader.statement below) kind cursor.old) result cursor.new }
 {
     match kind {
         StatementKind::Block => {
@@ -153,11 +162,12 @@ fn statement(alloc: Global, cursor: &mut Cursor<'_>, most: u32) -> Result<Statem
 
 /// Reads the body of a function, of at most this height.
 ///
-/// `Unexpected` comes for a next token with which no body goes on, and `TooHigh` for one with which only higher ones do;
-/// `Memory` comes for want of memory.
+/// `Unexpected` comes for a next token with which no body goes on, and `TooHigh` for one with which
+/// only higher ones do; `Memory` comes where memory runs out.
 pub fn body(alloc: Global, cursor: &mut Cursor<'_>, most: u32) -> Result<Vec<Statement>, Refusal>
     requires { most < 2 ^ 28 }
-    ensures { Gives (λ all. view_statements all.items) (reader.body most cursor.old) result cursor.new }
+    ensures { Gives (λ all. view_statements all.items) (reader.body most cursor.old)
+        result cursor.new }
 {
     if most == 0 && cursor.is_sign(Sign::BraceOpen) {
         return Err(Refusal::TooHigh);

@@ -47,7 +47,8 @@ fn variable(alloc: Global, cursor: &mut Cursor<'_>, most: u32) -> Result<Variabl
 fn list(alloc: Global, cursor: &mut Cursor<'_>, most: u32) -> Result<Vec<Variable>, Refusal>
     requires some { 1 ≤ most }
     requires fits { most < 2 ^ 28 }
-    ensures { Gives (λ all. map view_variable all.items) (list_of (reader.variable most) cursor.old) result cursor.new }
+    ensures { Gives (λ all. map view_variable all.items)
+        (list_of (reader.variable most) cursor.old) result cursor.new }
 {
     let mut all = Vec::new(alloc);
     all.push(variable(alloc, cursor, most)?)?;
@@ -65,7 +66,8 @@ pub fn variables(
     most: u32,
 ) -> Result<Vec<Variable>, Refusal>
     requires { most < 2 ^ 28 }
-    ensures { Gives (λ all. map view_variable all.items) (reader.variables most cursor.old) result cursor.new }
+    ensures { Gives (λ all. map view_variable all.items) (reader.variables most cursor.old)
+        result cursor.new }
 {
     if !cursor.is_word(Word::Int) {
         return Err(Refusal::Unexpected);

@@ -7,8 +7,8 @@ ghost use Rattle.dsm_syntax.specs.Tokens.{read_name, read_number, read_string, i
 ghost use Rattle.dsm_syntax.specs.Gives.{Gives};
 
 use crate::refusal::Refusal;
-use dsm_base::Text;
 use crate::{Name, Sign, Token, TokenKind, Word};
+use dsm_base::Text;
 use std::alloc::Global;
 use std::marker::Model;
 

@@ -36,7 +36,8 @@ pub fn tokens_in_place()
 /// string, a comment or a slash open. With what is missing there it is right.
 pub fn refused_for_good()
     ensures refused { (text more : List ℕ) (e : ProgErr) →
-        IsRefused text e → ((missing : List ℕ) → ¬ EndsOpen text missing) → (f : ProgErr) × IsRefused (text ++ more) f }
+        IsRefused text e → ((missing : List ℕ) → ¬ EndsOpen text missing) →
+        (f : ProgErr) × IsRefused (text ++ more) f }
     ensures completed { (text missing : List ℕ) →
         EndsOpen text missing → (tokens : List Token) × IsLexed (text ++ missing) tokens }
 {}

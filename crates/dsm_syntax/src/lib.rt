@@ -25,7 +25,8 @@ pub use refusal::Refusal;
 pub use sign::Sign;
 pub use token::{Token, TokenKind, Tokens};
 pub use tree::{
-    AssignOp, BinaryOp, Bind, BindBarrier, BindEach, Declarator, Expression, ForStart, Function, Initial,
-    Item, Name, Params, Part, Place, Returns, Sharing, StepOp, Statement, Tree, UnaryOp, Variable,
+    AssignOp, BinaryOp, Bind, BindBarrier, BindEach, Declarator, Expression, ForStart, Function,
+    Initial, Item, Name, Params, Part, Place, Returns, Sharing, Statement, StepOp, Tree, UnaryOp,
+    Variable,
 };
 pub use word::Word;

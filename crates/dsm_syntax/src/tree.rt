@@ -167,9 +167,16 @@ pub enum Statement {
     IfElse(Expression, Box<Statement>, Box<Statement>),
     While(Expression, Box<Statement>),
     For(ForStart, Option<Expression>, Option<Expression>, Box<Statement>),
-    Break { line: u32 },
-    Continue { line: u32 },
-    Return { line: u32, value: Option<Expression> },
+    Break {
+        line: u32,
+    },
+    Continue {
+        line: u32,
+    },
+    Return {
+        line: u32,
+        value: Option<Expression>,
+    },
     Acquire(Place),
     AcquireShared(Place),
     Release(Place),

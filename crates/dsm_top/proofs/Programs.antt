@@ -7,8 +7,8 @@ use Rattle.dsm_syntax.specs.declared.errors.ProgErr.{ProgErr}
 use Rattle.dsm_syntax.specs.Texts.{IsLexed, IsAnswer, IsRefused as IsTextRefused}
 use Rattle.dsm_syntax.specs.Tree.{Item}
 use Rattle.dsm_syntax.specs.Lexemes.{lexemes}
-use Rattle.dsm_laws_grammar.specs.Programs.{IsProgramOf}
-use Rattle.dsm_laws_grammar.specs.Refusals.{IsRefused as AreTokensRefused}
+use Rattle.dsm_parse.specs.Programs.{IsProgramOf}
+use Rattle.dsm_parse.specs.Refusals.{IsRefused as AreTokensRefused}
 use Rattle.dsm_check.specs.declared.checked.Checked.{Checked}
 use Rattle.dsm_check.specs.CheckedViews.{program_of}
 use Rattle.dsm_check.specs.Programs.{checked}

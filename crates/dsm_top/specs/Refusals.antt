@@ -7,8 +7,8 @@ use Rattle.dsm_syntax.specs.declared.token.Token.{Token}
 use Rattle.dsm_syntax.specs.Texts.{IsLexed, IsRefused as IsTextRefused}
 use Rattle.dsm_syntax.specs.Tree.{Item}
 use Rattle.dsm_syntax.specs.Lexemes.{lexemes}
-use Rattle.dsm_laws_grammar.specs.Programs.{IsProgramOf}
-use Rattle.dsm_laws_grammar.specs.Refusals.{IsRefused as AreTokensRefused}
+use Rattle.dsm_parse.specs.Programs.{IsProgramOf}
+use Rattle.dsm_parse.specs.Refusals.{IsRefused as AreTokensRefused}
 use Rattle.dsm_check.specs.Programs.{Program, checked}
 use Rattle.dsm_check.specs.Setups.{fitting}
 use Rattle.dsm_sched.specs.declared.picks.PickEntry.{PickEntry}
