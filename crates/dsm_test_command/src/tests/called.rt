@@ -22,7 +22,7 @@ pub struct Failed {
     pub call: Called,
     pub kind: CallKind,
     /// Which of its kind fails, from 1.
-    pub nth: u64,
+    pub nth: u32,
 }
 
 fn named(alloc: Global, name: &str, contents: &[u8]) -> Result<NamedFile, Fail> {

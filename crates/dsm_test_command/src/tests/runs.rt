@@ -195,14 +195,3 @@ fn programs_of_another_form_are_refused(rt: HostRuntime) -> Result<(), Fail> {
     }
     Ok(())
 }
-
-#[test]
-fn schedules_have_a_most_of_bytes(rt: HostRuntime) -> Result<(), Fail> {
-    const TABLE: &[(usize, u8)] = &[(4_194_296, 2), (4_194_297, 4)];
-    for &(blanks, wanted) in TABLE {
-        let schedule = repeated(rt.alloc(), "procs 2\n", " ", blanks, "")?;
-        let found = status_of(rt.alloc(), NOTHING, schedule.as_str())?;
-        assert_eq!(rt; found, wanted);
-    }
-    Ok(())
-}
