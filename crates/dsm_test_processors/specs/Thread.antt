@@ -4,7 +4,7 @@ use Rattle.std.specs.Ordering.{int_eq}
 use Rattle.dsm_base.specs.declared.names.Mode.{Mode}
 use Rattle.dsm_base.specs.declared.label.Want.{Want}
 use Rattle.dsm_base.specs.declared.label.Label.{Label}
-use Rattle.dsm_base.specs.Threads.{Semantics}
+use Rattle.dsm_base.specs.Threads.{Semantics, Kind}
 use Rattle.dsm_test_processors.specs.declared.thread.Place.{Place}
 use Rattle.dsm_test_processors.specs.declared.thread.Thread.{Thread}
 
@@ -42,5 +42,10 @@ semantics = record {
   after = after_label;
 }
 
+-- such a thread is its own state
+abbrev pub thread_kind : Kind Thread Thread
+thread_kind = record { state = λ thread. thread; semantics = semantics }
+
+-- before its first step
 abbrev pub first : Thread
 first = record { place = Place.Asking; loaded = pos 0 }

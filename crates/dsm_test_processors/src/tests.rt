@@ -5,13 +5,15 @@ ghost use Rattle.dsm_base.specs.declared.setup.Setup.{Setup};
 ghost use Rattle.dsm_trace.specs.Fits.{IsWithin};
 ghost use Rattle.dsm_node.specs.Node as nodes;
 ghost use Rattle.dsm_world.specs.World.{setup_of, IsWhole};
-ghost use Rattle.dsm_test_processors.specs.Thread.{semantics, first};
+ghost use Rattle.dsm_test_processors.specs.Thread.{thread_kind, first};
 
 use crate::thread::{Thread, Threads};
-use dsm_base::{Act, Cell, Label, Lock, MemFault, Mode, Object, Piece, Proc, Setup, TaskMaker};
+use dsm_base::{
+    Act, Cell, Finished, Label, Lock, MemFault, Mode, Object, Piece, Proc, Setup, TaskMaker,
+};
 use dsm_node::{Node, Stepped};
 use dsm_trace::{Body, Carry, Msg};
-use dsm_world::{Finished, Lines, World};
+use dsm_world::{Lines, World};
 use sqlite_items::Items;
 use std::alloc::Global;
 use std::rc::Rc;
@@ -42,7 +44,7 @@ fn setup(alloc: Global) -> Result<Setup, MemFault>
 
 /// The world of two threads.
 fn world(alloc: Global) -> Result<World<Threads>, MemFault>
-    ensures whole { IfOk result (IsWhole (λ thread. thread) (λ maker procs me. first) semantics) }
+    ensures whole { IfOk result (IsWhole thread_kind (λ maker procs me. first)) }
     ensures procs { IfOk result (λ world. (setup_of world).procs ≡ 2) }
 {
     World::new(alloc, Rc::new(alloc, setup(alloc)?)?, Threads)
@@ -55,6 +57,11 @@ fn is_of_two(act: Act) -> bool
     match act {
         Act::Step(proc) => proc.0 < 2,
         Act::Deliver(from, to) => from.0 < 2 && to.0 < 2 && from.0 != to.0,
+        Act::Ckpt(proc)
+        | Act::Block(proc)
+        | Act::Crash(proc)
+        | Act::Torn(proc, _)
+        | Act::Restart(proc) => proc.0 < 2,
     }
 }
 
@@ -68,9 +75,9 @@ fn append(text: &mut Vec<u8>, lines: &Lines) -> Result<(), MemFault> {
 
 /// The lines of units that are applied one after another.
 fn lines_of(alloc: Global, world: &mut World<Threads>, acts: &[Act]) -> Result<Vec<u8>, MemFault>
-    requires whole { IsWhole (λ thread. thread) (λ maker procs me. first) semantics world.old }
+    requires whole { IsWhole thread_kind (λ maker procs me. first) world.old }
     requires procs { (setup_of world.old).procs ≡ 2 }
-    ensures whole { OnOk result (IsWhole (λ thread. thread) (λ maker procs me. first) semantics world.new) }
+    ensures whole { OnOk result (IsWhole thread_kind (λ maker procs me. first) world.new) }
     ensures procs { OnOk result ((setup_of world.new).procs ≡ 2) }
 {
     let mut text = Vec::new(alloc);
@@ -124,7 +131,7 @@ fn the_second_sees_what_the_first_stored(rt: HostRuntime) -> Result<(), Fail> {
 /// The processor of this number before its first turn.
 fn node(alloc: Global, me: Proc) -> Result<Node<Thread>, MemFault>
     requires { me.0 < 2 }
-    ensures whole { IfOk result (nodes.IsWhole (λ thread. thread) semantics) }
+    ensures whole { IfOk result (nodes.IsWhole thread_kind) }
     ensures me { IfOk result (λ node. nodes.me_of node ≡ me.0) }
     ensures procs { IfOk result (λ node. (nodes.setup_of node).procs ≡ 2) }
     ensures locks { IfOk result (λ node. (nodes.setup_of node).locks ≡ 1) }
@@ -159,7 +166,7 @@ fn a_home_grants_a_free_lock(rt: HostRuntime) -> Result<(), Fail> {
         )
     );
     assert!(rt; node.step()?.is_none());
-    assert_eq!(rt; node.turns(), 1);
+    assert_eq!(rt; node.turn(), 1);
     assert_eq!(rt; node.ending(), None);
     Ok(())
 }

@@ -47,13 +47,11 @@ impl Task for Thread {
     type State = Thread;
 
     ghost use Rattle.std.specs.Prelude.{Some};
-    ghost use Rattle.dsm_test_processors.specs.Thread.{want_at, semantics};
+    ghost use Rattle.dsm_test_processors.specs.Thread.{want_at, thread_kind};
 
-    ghost state = { λ thread. thread };
+    ghost kind = { thread_kind };
 
     ghost told = { λ thread. Some (want_at thread.place) };
-
-    ghost semantics = { semantics };
 
     fn want(&mut self) -> Want {
         match self.place {
