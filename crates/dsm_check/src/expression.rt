@@ -113,7 +113,8 @@ impl<'a> Scope<'a> {
     /// What is loaded and stored to.
     #[cycle(expression)]
     fn place(&self, place: &Place) -> Result<Location, ProgErr>
-        ensures { Gives view_location result (resolve_place (scope_of self.now).names (tree.view_place place.now)) }
+        ensures { Gives view_location result (resolve_place (scope_of self.now).names
+            (tree.view_place place.now)) }
     {
         match place {
             Place::Single(name) => as_single(self.alloc, name, self.used(name)?),
@@ -128,7 +129,8 @@ impl<'a> Scope<'a> {
     /// The arguments of a call.
     #[cycle(expression)]
     fn arguments(&self, arguments: &[Expr]) -> Result<Vec<Expression>, ProgErr>
-        ensures { Gives (λ made. views made.items) result (resolve_all (scope_of self.now).names (tree.views arguments.now)) }
+        ensures { Gives (λ made. views made.items) result (resolve_all (scope_of self.now).names
+            (tree.views arguments.now)) }
     {
         let mut made = Vec::new(self.alloc);
         for argument in arguments {
@@ -141,7 +143,8 @@ impl<'a> Scope<'a> {
     #[cycle(expression)]
     #[tactic(auto, using(crate::proofs::Collections::counted, crate::proofs::Shown::view_call))]
     fn call(&self, needed: bool, name: &Name, arguments: &[Expr]) -> Result<Expression, ProgErr>
-        ensures { Gives view result (resolve_call needed (scope_of self.now).names name.now (tree.views arguments.now)) }
+        ensures { Gives view result (resolve_call needed (scope_of self.now).names name.now
+            (tree.views arguments.now)) }
     {
         let named = self.used(name)?;
         let function = as_called(self.alloc, needed, name, arguments.len(), named)?;
@@ -161,7 +164,8 @@ impl<'a> Scope<'a> {
 
     /// The expression, where there is one.
     pub fn optional_expression(&self, e: &Option<Expr>) -> Result<Option<Expression>, ProgErr>
-        ensures { Gives (tree.option_view view) result (optional (resolve (scope_of self.now).names) (tree.option_view tree.view e.now)) }
+        ensures { Gives (tree.option_view view) result (optional (resolve (scope_of self.now).names)
+            (tree.option_view tree.view e.now)) }
     {
         match e {
             None => Ok(None),
@@ -171,7 +175,9 @@ impl<'a> Scope<'a> {
 
     /// The expression, where there is one, whose value isn't needed.
     pub fn optional_effect(&self, e: &Option<Expr>) -> Result<Option<Expression>, ProgErr>
-        ensures { Gives (tree.option_view view) result (optional (resolve_effect (scope_of self.now).names) (tree.option_view tree.view e.now)) }
+        ensures { Gives (tree.option_view view) result
+            (optional (resolve_effect (scope_of self.now).names)
+            (tree.option_view tree.view e.now)) }
     {
         match e {
             None => Ok(None),

@@ -77,7 +77,8 @@ pub struct Around<'a> {
 
 /// A statement that may only stand in a loop.
 fn in_loop(looped: bool, line: u32, statement: Statement) -> Result<Statement, ProgErr>
-    ensures { Gives view_statement result (if looped then Ok (view_statement statement) else Err (OutsideLoop line)) }
+    ensures { Gives view_statement result
+        (if looped then Ok (view_statement statement) else Err (OutsideLoop line)) }
 {
     if !looped {
         return Err(ProgErr::OutsideLoop { line });
@@ -91,7 +92,8 @@ impl<'a> Scope<'a> {
     /// A variable where it is declared.
     fn variable(&mut self, variable: &'a tree::Variable) -> Result<Variable, ProgErr>
         requires { 1 ≤ blocks_in self.old.locals }
-        ensures value { Gives (λ made. (view_variable made, scope_of self.new)) result (resolve_variable (scope_of self.old) (tree.view_variable variable.now)) }
+        ensures value { Gives (λ made. (view_variable made, scope_of self.new)) result
+            (resolve_variable (scope_of self.old) (tree.view_variable variable.now)) }
         ensures blocks { OnOk result (blocks_in self.new.locals ≡ blocks_in self.old.locals) }
     {
         let slot = self.declare(&variable.name)?;
@@ -105,7 +107,9 @@ impl<'a> Scope<'a> {
     /// Variables one after the other.
     fn variables(&mut self, variables: &'a [tree::Variable]) -> Result<Vec<Variable>, ProgErr>
         requires { 1 ≤ blocks_in self.old.locals }
-        ensures value { Gives (λ made. (map view_variable made.items, scope_of self.new)) result (each_made resolve_variable (scope_of self.old) (map tree.view_variable variables.now)) }
+        ensures value { Gives (λ made. (map view_variable made.items, scope_of self.new)) result
+            (each_made resolve_variable (scope_of self.old)
+            (map tree.view_variable variables.now)) }
         ensures blocks { OnOk result (blocks_in self.new.locals ≡ blocks_in self.old.locals) }
     {
         let mut made = Vec::new(self.alloc);
@@ -117,7 +121,8 @@ impl<'a> Scope<'a> {
 
     /// A lock that a statement names.
     fn lock(&self, place: &Place) -> Result<LockPlace, ProgErr>
-        ensures { Gives view_lock result (resolve_lock (scope_of self.now).names (tree.view_place place.now)) }
+        ensures { Gives view_lock result (resolve_lock (scope_of self.now).names
+            (tree.view_place place.now)) }
     {
         match place {
             Place::Single(name) => as_one_lock(self.alloc, name, self.used(name)?),
@@ -130,7 +135,8 @@ impl<'a> Scope<'a> {
 
     /// A part of a print.
     fn part(&self, part: &tree::Part) -> Result<Part, ProgErr>
-        ensures { Gives view_part result (resolve_part (scope_of self.now).names (tree.view_part part.now)) }
+        ensures { Gives view_part result (resolve_part (scope_of self.now).names
+            (tree.view_part part.now)) }
     {
         match part {
             tree::Part::Text(text) => {
@@ -142,7 +148,8 @@ impl<'a> Scope<'a> {
 
     /// The parts of a print.
     fn print(&self, parts: &[tree::Part]) -> Result<Vec<Part>, ProgErr>
-        ensures { Gives (λ made. map view_part made.items) result (resolve_print (scope_of self.now).names (map tree.view_part parts.now)) }
+        ensures { Gives (λ made. map view_part made.items) result
+            (resolve_print (scope_of self.now).names (map tree.view_part parts.now)) }
     {
         within(Which::PrintParts, 8, parts.len() as u64)?;
         within(Which::PrintText, 96, text_bytes(parts))?;
@@ -156,7 +163,8 @@ impl<'a> Scope<'a> {
     /// What stands first in the head of a `for`.
     fn start(&mut self, start: &'a tree::ForStart) -> Result<ForStart, ProgErr>
         requires { 1 ≤ blocks_in self.old.locals }
-        ensures value { Gives (λ made. (view_start made, scope_of self.new)) result (resolve_start (scope_of self.old) (tree.view_start start.now)) }
+        ensures value { Gives (λ made. (view_start made, scope_of self.new)) result
+            (resolve_start (scope_of self.old) (tree.view_start start.now)) }
         ensures blocks { OnOk result (blocks_in self.new.locals ≡ blocks_in self.old.locals) }
     {
         match start {
@@ -175,7 +183,8 @@ impl<'a> Scope<'a> {
         line: u32,
         value: &Option<Expr>,
     ) -> Result<Option<Expression>, ProgErr>
-        ensures { Gives (tree.option_view view) result (resolve_return (around_of around.entry) (scope_of self.now).names line (tree.option_view tree.view value.now)) }
+        ensures { Gives (tree.option_view view) result (resolve_return (around_of around.entry)
+            (scope_of self.now).names line (tree.option_view tree.view value.now)) }
     {
         if value.is_some() && is_void(around.returns) {
             return Err(wrong_kind_at(self.alloc, around.name, line));
@@ -192,7 +201,9 @@ impl<'a> Scope<'a> {
         s: &'a Stmt,
     ) -> Result<Box<Statement>, ProgErr>
         requires { 1 ≤ blocks_in self.old.locals }
-        ensures value { Gives (λ made. (view_statement made.value, scope_of self.new)) result (closing (resolve_statement (around_of around.entry) looped (open_block (scope_of self.old)) (tree.view_statement s.now))) }
+        ensures value { Gives (λ made. (view_statement made.value, scope_of self.new)) result
+            (closing (resolve_statement (around_of around.entry) looped
+            (open_block (scope_of self.old)) (tree.view_statement s.now))) }
         ensures blocks { OnOk result (blocks_in self.new.locals ≡ blocks_in self.old.locals) }
     {
         self.open()?;
@@ -213,7 +224,10 @@ impl<'a> Scope<'a> {
         body: &'a Stmt,
     ) -> Result<Statement, ProgErr>
         requires { 1 ≤ blocks_in self.old.locals }
-        ensures value { Gives (λ made. (view_statement made, scope_of self.new)) result (resolve_statement (around_of around.entry) false (scope_of self.old) (t.for (tree.view_start start.now) (tree.option_view tree.view test.now) (tree.option_view tree.view step.now) (tree.view_statement body.now))) }
+        ensures value { Gives (λ made. (view_statement made, scope_of self.new)) result
+            (resolve_statement (around_of around.entry) false (scope_of self.old)
+            (t.for (tree.view_start start.now) (tree.option_view tree.view test.now)
+            (tree.option_view tree.view step.now) (tree.view_statement body.now))) }
         ensures blocks { OnOk result (blocks_in self.new.locals ≡ blocks_in self.old.locals) }
     {
         self.open()?;
@@ -234,7 +248,9 @@ impl<'a> Scope<'a> {
         statements: &'a [Stmt],
     ) -> Result<Vec<Statement>, ProgErr>
         requires { 1 ≤ blocks_in self.old.locals }
-        ensures value { Gives (λ made. (view_statements made.items, scope_of self.new)) result (resolve_statements (around_of around.entry) looped (scope_of self.old) (tree.view_statements statements.now)) }
+        ensures value { Gives (λ made. (view_statements made.items, scope_of self.new)) result
+            (resolve_statements (around_of around.entry) looped (scope_of self.old)
+            (tree.view_statements statements.now)) }
         ensures blocks { OnOk result (blocks_in self.new.locals ≡ blocks_in self.old.locals) }
     {
         let mut made = Vec::new(self.alloc);
@@ -253,7 +269,9 @@ impl<'a> Scope<'a> {
         statements: &'a [Stmt],
     ) -> Result<Statement, ProgErr>
         requires { 1 ≤ blocks_in self.old.locals }
-        ensures value { Gives (λ made. (view_statement made, scope_of self.new)) result (resolve_statement (around_of around.entry) looped (scope_of self.old) (t.block (tree.view_statements statements.now))) }
+        ensures value { Gives (λ made. (view_statement made, scope_of self.new)) result
+            (resolve_statement (around_of around.entry) looped (scope_of self.old)
+            (t.block (tree.view_statements statements.now))) }
         ensures blocks { OnOk result (blocks_in self.new.locals ≡ blocks_in self.old.locals) }
     {
         self.open()?;
@@ -271,7 +289,9 @@ impl<'a> Scope<'a> {
         s: &'a Stmt,
     ) -> Result<Statement, ProgErr>
         requires { 1 ≤ blocks_in self.old.locals }
-        ensures value { Gives (λ made. (view_statement made, scope_of self.new)) result (resolve_statement (around_of around.entry) looped (scope_of self.old) (tree.view_statement s.now)) }
+        ensures value { Gives (λ made. (view_statement made, scope_of self.new)) result
+            (resolve_statement (around_of around.entry) looped (scope_of self.old)
+            (tree.view_statement s.now)) }
         ensures blocks { OnOk result (blocks_in self.new.locals ≡ blocks_in self.old.locals) }
     {
         match s {
