@@ -117,6 +117,15 @@ impl Schedule {
         })
     }
 
+    /// How many units there are, at most 500,000.
+    pub fn units(&self) -> u32
+        ensures count { result ≡ length (units_of self.now) }
+        ensures few { result ≤ 500000 }
+    {
+        let ends = self.ends.as_slice();
+        start_of(ends, ends.len())
+    }
+
     /// The unit with this number, from 0, where there are so many. Takes no memory, and time in the
     /// logarithm of the number of entries.
     pub fn act(&self, index: u32) -> Option<Act>
