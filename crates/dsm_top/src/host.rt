@@ -5,7 +5,7 @@ ghost use Rattle.std.specs.Prelude.{◌≡◌, None, OnOk, string_bytes};
 ghost use Rattle.dsm_base.specs.Files.{Reads};
 
 use dsm_base::{Files, ReadErr, Sink};
-use std::io::{self, Read, Write};
+use std::io::{self, ErrorKind, Read, Write};
 use std::{fs, rt};
 
 /// Files of the host.
@@ -34,6 +34,7 @@ impl<R: rt::Files + Drop> Files for HostFiles<R> {
     fn read(&mut self, name: &String, most: usize, into: &mut Vec<u8>) -> Result<(), ReadErr> {
         match read_file(&self.host, name, most, into) {
             Ok(()) => Ok(()),
+            Err(error) if error.kind() == ErrorKind::OutOfMemory => Err(ReadErr::Memory),
             Err(_) => {
                 self.faults = self.faults.saturating_add(1);
                 Err(ReadErr::Failed)
