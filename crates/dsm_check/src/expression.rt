@@ -143,7 +143,12 @@ impl<'a> Scope<'a> {
     /// A call, by whether its value is needed.
     #[cycle(expression)]
     #[tactic(auto, using(crate::proofs::Collections::counted, crate::proofs::Shown::view_call))]
-    fn call(&self, needed: bool, name: &Name, arguments: &[tree::Expression]) -> Result<Expression, ProgErr>
+    fn call(
+        &self,
+        needed: bool,
+        name: &Name,
+        arguments: &[tree::Expression],
+    ) -> Result<Expression, ProgErr>
         ensures { Gives view result (resolve_call needed (scope_of self.now).names name.now
             (tree.views arguments.now)) }
     {
@@ -164,7 +169,10 @@ impl<'a> Scope<'a> {
     }
 
     /// The expression, where there is one.
-    pub fn optional_expression(&self, e: &Option<tree::Expression>) -> Result<Option<Expression>, ProgErr>
+    pub fn optional_expression(
+        &self,
+        e: &Option<tree::Expression>,
+    ) -> Result<Option<Expression>, ProgErr>
         ensures { Gives (tree.option_view view) result (optional (resolve (scope_of self.now).names)
             (tree.option_view tree.view e.now)) }
     {
@@ -175,7 +183,10 @@ impl<'a> Scope<'a> {
     }
 
     /// The expression, where there is one, whose value isn't needed.
-    pub fn optional_effect(&self, e: &Option<tree::Expression>) -> Result<Option<Expression>, ProgErr>
+    pub fn optional_effect(
+        &self,
+        e: &Option<tree::Expression>,
+    ) -> Result<Option<Expression>, ProgErr>
         ensures { Gives (tree.option_view view) result
             (optional (resolve_effect (scope_of self.now).names)
             (tree.option_view tree.view e.now)) }

@@ -297,7 +297,9 @@ impl<'a> Scope<'a> {
         match s {
             tree::Statement::Block(statements) => self.block(around, looped, statements),
             tree::Statement::Empty => Ok(Statement::Empty),
-            tree::Statement::Variables(variables) => Ok(Statement::Variables(self.variables(variables)?)),
+            tree::Statement::Variables(variables) => Ok(Statement::Variables(self.variables(
+                variables,
+            )?)),
             tree::Statement::Expression(e) => Ok(Statement::Expression(self.effect(e)?)),
             tree::Statement::If(test, body) => {
                 let test = self.expression(test)?;
@@ -313,14 +315,22 @@ impl<'a> Scope<'a> {
                 let test = self.expression(test)?;
                 Ok(Statement::While(test, self.inner(around, true, body)?))
             }
-            tree::Statement::For(start, test, step, body) => self.for_loop(around, start, test, step, body),
+            tree::Statement::For(start, test, step, body) => self.for_loop(
+                around, start, test, step, body,
+            ),
             tree::Statement::Break { line } => in_loop(looped, *line, Statement::Break),
             tree::Statement::Continue { line } => in_loop(looped, *line, Statement::Continue),
             tree::Statement::Return { line, value } => {
                 Ok(Statement::Return(self.returned(around, *line, value)?))
             }
-            tree::Statement::Acquire(place) => Ok(Statement::Acquire(self.lock(place)?, Mode::Excl)),
-            tree::Statement::AcquireShared(place) => Ok(Statement::Acquire(self.lock(place)?, Mode::Shared)),
+            tree::Statement::Acquire(place) => Ok(Statement::Acquire(
+                self.lock(place)?,
+                Mode::Excl,
+            )),
+            tree::Statement::AcquireShared(place) => Ok(Statement::Acquire(
+                self.lock(place)?,
+                Mode::Shared,
+            )),
             tree::Statement::Release(place) => Ok(Statement::Release(self.lock(place)?)),
             tree::Statement::Barrier(name) => {
                 let number = as_barrier(self.alloc, name, self.used(name)?)?;

@@ -7,7 +7,7 @@ use Rattle.dsm_syntax.specs.declared.tree.Name.{Name}
 use Rattle.dsm_syntax.specs.Tree.{Place, Expression, Initial, Variable, Part, part_text, part_value, ForStart, start_nothing, start_variables, start_expression, Statement, Statements}
 use Rattle.dsm_syntax.specs.Tree as t
 use Rattle.dsm_syntax.specs.declared.kind.StatementKind.{StatementKind}
-use Rattle.dsm_syntax.specs.Lexemes.{Lexeme, word, sign, word_at, sign_at}
+use Rattle.dsm_syntax.specs.Lexemes.{Lexeme, sign_at}
 use Rattle.dsm_syntax.specs.Reading.{Reader, ok, unexpected, too_high, and_then, look, tail, is_sign, is_word, after_sign, ended_by, repeated, list_of}
 use Rattle.dsm_syntax.specs.Tokens.{read_name, read_string, is_string}
 use Rattle.dsm_syntax.specs.Kinds.{kind}

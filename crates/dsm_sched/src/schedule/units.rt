@@ -131,7 +131,8 @@ impl Schedule {
     pub fn act(&self, index: u32) -> Option<Act>
         ensures unit { result ≡ slice_get (units_of self.now) index }
         ensures within { IfSome result (λ act. IsTrue (is_act self.now.procs act)) }
-        ensures built { list_all is_built self.now.entries ≡ true → IfSome result (λ act. is_built_act act ≡ true) }
+        ensures built { list_all is_built self.now.entries ≡ true
+            → IfSome result (λ act. is_built_act act ≡ true) }
     {
         let ends = self.ends.as_slice();
         let place = place_of(ends, index);

@@ -380,10 +380,7 @@ fn statements(rt: HostRuntime) -> Result<(), Fail> {
             "int i; for (; ; i++) { if (i == 1) continue; if (i > 2) break; print(i); }",
             "0\n2",
         ),
-        (
-            "if (0) print(1); else if (2) print(3); else print(4);",
-            "3",
-        ),
+        ("if (0) print(1); else if (2) print(3); else print(4);", "3"),
         ("if (0) print(1);", ""),
         ("if (1) if (0) print(1); else print(2);", "2"),
         ("if (0) if (1) print(1); else print(2);", ""),
