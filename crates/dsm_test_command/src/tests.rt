@@ -7,3 +7,4 @@ mod picks;
 mod programs;
 mod refusals;
 mod runs;
+mod words;

@@ -1,4 +1,5 @@
 //! What the clauses mean, by examples.
 
 mod picks;
+mod rounds;
 mod schedules;
