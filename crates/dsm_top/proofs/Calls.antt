@@ -86,6 +86,10 @@ told_whole line left Status.WriteFault refuses wrote = absurd (cc)
 told_whole line left Status.Memory refuses wrote = absurd (cc)
 told_whole line left _ refuses wrote = (refl, wrote)
 
+-- a report of a call that ran nothing
+abbrev untraced : Status → Report
+untraced status = record { status = status; trace = []; units = 0 }
+
 -- nothing ran: memory ran out before anything was written
 pub refused_silent : (given : Given) (before after : Option (List ℕ)) (faults_before faults_after : ℕ) (report : Report) → report ≡ record { status = Status.Memory; trace = []; units = 0 } → after ≡ before →
     Refused given record { before = before; after = after; faults_before = faults_before; faults_after = faults_after; trace = reverse report.trace; units = report.units } report.status
@@ -120,7 +124,7 @@ module _ (given : Given) (before after : Option (List ℕ)) (faults_before fault
 
   pub refused_cut : (report : Report) (answer : Status) (error : ReadErr) → report ≡ record { status = answer; trace = []; units = 0 } → answer ≡ status_of_write error → TakesPart before after line → IfFailed error (Rose faults_before faults_after) →
       Refused given record { before = before; after = after; faults_before = faults_before; faults_after = faults_after; trace = reverse report.trace; units = report.units } report.status
-  refused_cut report answer error made named part rose = answered report (status_of_write error) (made ∙ ap (λ one. record { status = one; trace = []; units = 0 }) named) (cut_tells error part rose)
+  refused_cut report answer error made named part rose = answered report (status_of_write error) (made ∙ ap untraced named) (cut_tells error part rose)
 
 -- What a command that was prepared leaves.
 

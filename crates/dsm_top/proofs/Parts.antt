@@ -26,7 +26,7 @@ weaker Old New _ more is = more is
 -- the whole call is a part of itself
 pub whole_part : (command : Option Command) (files : Contents) (before after : ℕ) →
     IsPart record { command = command; files = files; faults_before = before; faults_after = after }
-        record { files = files; before = before; after = after }
+    record { files = files; before = before; after = after }
 whole_part command files before after = record { same = refl; earlier = omega arith; later = omega arith }
 
 module _ (given : Given) (files more : Contents) (first before after : ℕ) (kept : Keeps record { files = files; before = first; after = before } more) where
@@ -40,22 +40,12 @@ module _ (given : Given) (files more : Contents) (first before after : ℕ) (kep
         later = part.later;
       }
 
--- the first of two parts that are one part
-pub earlier_part : (given : Given) (files : Contents) (first before after : ℕ) → before ≤ after → IsPart given record { files = files; before = first; after = after } → IsPart given record { files = files; before = first; after = before }
-earlier_part given files first before after later part = record {
-  same = part.same;
-  earlier = part.earlier;
-  later = omega (arith, part.later, later);
-}
+rose_within : (first before after last : ℕ) → first ≤ before → after ≤ last → Rose before after → Rose first last
+rose_within first before after last earlier later risen = omega (arith, earlier, later, risen)
 
 -- a count that rose in a part of the call has risen in all of it
 pub rose : (given : Given) (span : Span) → IsPart given span → Rose span.before span.after → FilesRose given
-rose given span part is =
-    let first = given.faults_before in
-    let last = given.faults_after in
-    rose_within first span.before span.after last part.earlier part.later is where
-  rose_within : (first before after last : ℕ) → first ≤ before → after ≤ last → Rose before after → Rose first last
-  rose_within first before after last earlier later risen = omega (arith, earlier, later, risen)
+rose given span part is = rose_within given.faults_before span.before span.after given.faults_after part.earlier part.later is
 
 -- A file couldn't be read.
 

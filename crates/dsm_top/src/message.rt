@@ -295,7 +295,8 @@ pub(crate) fn message(
     command: Option<&Command>,
     status: &Status,
 ) -> Result<Line, MemFault>
-    ensures { IfOk result (λ line. line ≡ message_line (refusal_text (option_map command_in command.entry) status.now)) }
+    ensures { IfOk result (λ line.
+        line ≡ message_line (refusal_text (told_command command.entry) status.now)) }
 {
     let mut line = Line::new(alloc);
     line.text("dsm: ")?;

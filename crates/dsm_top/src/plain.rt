@@ -94,13 +94,13 @@ fn apply_picks<K: Sink>(
     ensures whole { OnOk result (IsWhole run.new.machine) }
     ensures at { OnOk result (IsAt (program_in run.old) run.old.machine.setup run.new
         (program_run (program_in run.old) run.old.machine.setup
-            (take run.new.units (picked picks.now)))) }
+        (take run.new.units (picked picks.now)))) }
     ensures wrote { OnOk result (K.sink_holds out.new ≡ appended (K.sink_holds out.old)
         (printed_lines (program_run (program_in run.old) run.old.machine.setup
-            (take run.new.units (picked picks.now))))) }
+        (take run.new.units (picked picks.now))))) }
     ensures cut { IfErr result (WroteCut (K.sink_holds out.old) (K.sink_holds out.new)
         (printed_lines (program_run (program_in run.old) run.old.machine.setup
-            (take run.new.units (picked picks.now))))) }
+        (take run.new.units (picked picks.now))))) }
     ensures cause { HasCause (K.sink_faults out.old) (K.sink_faults out.new) result }
 {
     'picks: while let Some(proc) = picks.pick(run.units) {

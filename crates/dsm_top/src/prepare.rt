@@ -68,7 +68,7 @@ fn small_of<F: Files>(alloc: Global, name: &String, files: &mut F) -> Result<Sma
     ensures program { IfOk result (HasProgram (F.files_hold files.old) (string_bytes name.now)) }
     ensures refused { IfErr result
         (RefusesIn (span_of F.files_hold F.files_faults files.old files.new)
-            (λ given. RefusesSmall given (string_bytes name.now))) }
+        (λ given. RefusesSmall given (string_bytes name.now))) }
     ensures keeps { Keeps (span_of F.files_hold F.files_faults files.old files.new)
         (F.files_hold files.new) }
 {
@@ -83,7 +83,7 @@ fn schedule_of<F: Files>(alloc: Global, name: &String, files: &mut F) -> Result<
     ensures procs { IfOk result (λ schedule. schedule.procs ≡ 2) }
     ensures refused { IfErr result
         (RefusesIn (span_of F.files_hold F.files_faults files.old files.new)
-            (λ given. RefusesSchedule given (string_bytes name.now))) }
+        (λ given. RefusesSchedule given (string_bytes name.now))) }
     ensures keeps { Keeps (span_of F.files_hold F.files_faults files.old files.new)
         (F.files_hold files.new) }
 {
@@ -97,7 +97,7 @@ fn checked_of<F: Files>(alloc: Global, name: &String, files: &mut F) -> Result<C
         HasChecked (F.files_hold files.old) (string_bytes name.now) (program_of program)) }
     ensures refused { IfErr result
         (RefusesIn (span_of F.files_hold F.files_faults files.old files.new)
-            (λ given. RefusesProgram given (string_bytes name.now))) }
+        (λ given. RefusesProgram given (string_bytes name.now))) }
     ensures keeps { Keeps (span_of F.files_hold F.files_faults files.old files.new)
         (F.files_hold files.new) }
 {
@@ -111,7 +111,7 @@ fn picks_of<F: Files>(alloc: Global, name: &String, files: &mut F) -> Result<Pic
         HasPicks (F.files_hold files.old) (string_bytes name.now) picks.procs picks.entries) }
     ensures refused { IfErr result
         (RefusesIn (span_of F.files_hold F.files_faults files.old files.new)
-            (λ given. RefusesPicks given (string_bytes name.now))) }
+        (λ given. RefusesPicks given (string_bytes name.now))) }
     ensures keeps { Keeps (span_of F.files_hold F.files_faults files.old files.new)
         (F.files_hold files.new) }
 {
@@ -140,7 +140,7 @@ fn prepare_run<F: Files>(
     ensures ready { IfOk result CanRun }
     ensures refused { IfErr result
         (RefusesIn (span_of F.files_hold F.files_faults files.old files.new)
-            (λ given. RefusesRun given (string_bytes program.now) (string_bytes schedule.now))) }
+        (λ given. RefusesRun given (string_bytes program.now) (string_bytes schedule.now))) }
 {
     let program = small_of(alloc, program, files)?;
     let schedule = schedule_of(alloc, schedule, files)?;
@@ -158,7 +158,7 @@ fn prepare_check<F: Files>(
         (string_bytes program.now) procs (program_of found)) }
     ensures refused { IfErr result
         (RefusesIn (span_of F.files_hold F.files_faults files.old files.new)
-            (λ given. RefusesCheck given (string_bytes program.now) procs)) }
+        (λ given. RefusesCheck given (string_bytes program.now) procs)) }
 {
     let program = checked_of(alloc, program, files)?;
     test_owners(&program, procs)?;
@@ -178,7 +178,7 @@ fn prepare_plain<F: Files>(
         (string_bytes picks.now) prepared.picks.procs prepared.picks.entries) }
     ensures refused { IfErr result
         (RefusesIn (span_of F.files_hold F.files_faults files.old files.new)
-            (λ given. RefusesPlain given (string_bytes program.now) (string_bytes picks.now))) }
+        (λ given. RefusesPlain given (string_bytes program.now) (string_bytes picks.now))) }
 {
     let program = checked_of(alloc, program, files)?;
     let picks = picks_of(alloc, picks, files)?;
@@ -197,7 +197,7 @@ pub(crate) fn prepare<F: Files>(
     ensures ready { IfOk result IsReady }
     ensures refused { IfErr result (RefusesOrMemory
         (given_by F.files_hold F.files_faults (Some (command_in command.now))
-            files.old files.new)) }
+        files.old files.new)) }
 {
     match command {
         Command::Run {

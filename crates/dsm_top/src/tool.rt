@@ -19,12 +19,7 @@ use dsm_command::{Command, WordsErr, read_command};
 use std::alloc::Global;
 
 /// Writes the message of a refusal; out of memory has none.
-fn refuse<K: Sink>(
-    alloc: Global,
-    command: Option<&Command>,
-    status: Status,
-    out: &mut K,
-) -> Report
+fn refuse<K: Sink>(alloc: Global, command: Option<&Command>, status: Status, out: &mut K) -> Report
     ensures { (given : Given) → given.command ≡ told_command command.entry →
         RefusesOrMemory given status →
         Refused given (left_by K.sink_holds K.sink_faults out.old out.new result) result.status }
@@ -66,7 +61,7 @@ pub fn run_tool<F: Files, K: Sink>(
 ) -> Report
     ensures ended { Ended
         (given_by F.files_hold F.files_faults (command_of (map string_bytes words.now.items))
-            files.old files.new)
+        files.old files.new)
         (left_by K.sink_holds K.sink_faults out.old out.new result) result.status }
 {
     let command = match read_command(alloc, words) {

@@ -51,4 +51,5 @@ pub const RING: &str =
     "shared int a[3];\nshared int b[3];\nbarrier_t B;\nbindb(B, a, 0, 1, 0, 0, 2);\nbindb(B, b, 0, 1, 0, 1, 2);\nbindb(B, a, 1, 1, 1, 0, 2);\nbindb(B, b, 1, 1, 1, 1, 2);\nbindb(B, a, 2, 1, 2, 0, 2);\nbindb(B, b, 2, 1, 2, 1, 2);\nint main(int me, int n) {\n  a[me] = me + 1;\n  barrier(B);\n  b[me] = a[(me + 1) % n] * 10;\n  barrier(B);\n  print(b[(me + 1) % n]);\n  return 0;\n}\n";
 
 /// Calls without end.
-pub const DEEP: &str = "int f(int k) { return f(k + 1); }\nint main(int me, int n) { return f(0); }\n";
+pub const DEEP: &str =
+    "int f(int k) { return f(k + 1); }\nint main(int me, int n) { return f(0); }\n";

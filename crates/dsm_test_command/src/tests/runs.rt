@@ -168,7 +168,11 @@ fn repeated(
 fn status_of(alloc: Global, program: &str, schedule: &str) -> Result<u8, Fail> {
     let mut files = files(alloc, program.as_bytes(), schedule.as_bytes())?;
     let mut sink = MemSink::new(alloc, 4096);
-    Ok(call(alloc, "run prog other", &mut files, &mut sink)?.status.number())
+    Ok(
+        call(alloc, "run prog other", &mut files, &mut sink)?
+            .status
+            .number(),
+    )
 }
 
 /// What stands before a body that uses `x`.

@@ -2,15 +2,22 @@
 
 use crate::tests::checked::{NAMES, NOTHING, answered, program, told};
 use dsm_check::{Named, fit};
+use std::alloc::Global;
 use std::test::Fail;
 
 #[test]
 fn bindings(rt: HostRuntime) -> Result<(), Fail> {
     let alloc = rt.alloc();
     const TABLE: &[(&str, &str)] = &[
-        ("bind(M[0], a, 0, 3);\nbind(M[1], a, 2, 2);", "BindOverlap { cell: 3, line: 3 }"),
+        (
+            "bind(M[0], a, 0, 3);\nbind(M[1], a, 2, 2);",
+            "BindOverlap { cell: 3, line: 3 }",
+        ),
         ("bind(L, x, 0, 1); bindeach(M, a, 2);", "accepted"),
-        ("bind(M[1], a, 3, 1); bindeach(M, a, 2);", "BindOverlap { cell: 4, line: 2 }"),
+        (
+            "bind(M[1], a, 3, 1); bindeach(M, a, 2);",
+            "BindOverlap { cell: 4, line: 2 }",
+        ),
         (
             "bind(L, a, 2, 1);\nbind(L, a, 1, 1);\nbind(L, a, 0, 4);",
             "BindOverlap { cell: 2, line: 4 }",
@@ -53,7 +60,10 @@ fn bindings(rt: HostRuntime) -> Result<(), Fail> {
         ),
         ("bindeach(M, a, 3);", "BindRange { line: 2 }"),
         ("bindeach(M, a, 0);", "BindRange { line: 2 }"),
-        ("bindeach(M, a, 9223372036854775807);", "BindRange { line: 2 }"),
+        (
+            "bindeach(M, a, 9223372036854775807);",
+            "BindRange { line: 2 }",
+        ),
         ("bindb(B, a, 0, 0, 0, 0, 1);", "BindRange { line: 2 }"),
         ("bindb(B, a, 3, 2, 0, 0, 1);", "BindRange { line: 2 }"),
         ("bindb(B, a, 0, 1, 0, 0, 0);", "BindRange { line: 2 }"),
@@ -61,9 +71,15 @@ fn bindings(rt: HostRuntime) -> Result<(), Fail> {
         ("bindb(B, a, 0, 1, 1000001, 0, 1);", "BindRange { line: 2 }"),
         ("bindb(B, a, 0, 1, 0, 0, 1000001);", "BindRange { line: 2 }"),
         ("bindb(B, a, 0, 1, 1000000, 999999, 1000000);", "accepted"),
-        ("bind(L, a, 0, 0);\nbind(K, a, 0, 1);", "BindRange { line: 2 }"),
+        (
+            "bind(L, a, 0, 0);\nbind(K, a, 0, 1);",
+            "BindRange { line: 2 }",
+        ),
         ("bind(K, a, 0, 1);\nbind(L, a, 0, 0);", "unknown K 2"),
-        ("bind(L, a, 0, 4);\nbind(L, a, 3, 2);", "BindRange { line: 3 }"),
+        (
+            "bind(L, a, 0, 4);\nbind(L, a, 3, 2);",
+            "BindRange { line: 3 }",
+        ),
         (
             "bind(L, x, 0, 1);\nbind(L, x, 0, 1);\nbind(K, x, 0, 1);",
             "BindOverlap { cell: 0, line: 3 }",
@@ -97,7 +113,11 @@ fn fitting(alloc: Global, bindings: &str, procs: u8) -> Result<String, Fail> {
 #[test]
 fn owners_fit(rt: HostRuntime) -> Result<(), Fail> {
     const TABLE: &[(&str, u8, &str)] = &[
-        ("bindb(B, a, 0, 1, 3, 0, 1);", 3, "BindOwner { owner: 3, procs: 3 }"),
+        (
+            "bindb(B, a, 0, 1, 3, 0, 1);",
+            3,
+            "BindOwner { owner: 3, procs: 3 }",
+        ),
         ("bindb(B, a, 0, 1, 3, 0, 1);", 4, "fits"),
         (
             "bindb(B, a, 0, 1, 1, 0, 1); bindb(B, a, 1, 1, 9, 0, 1); bindb(B, a, 2, 1, 8, 0, 1);",
@@ -123,13 +143,14 @@ const BOUND: &str =
 fn a_program_is_set_up(rt: HostRuntime) -> Result<(), Fail> {
     let alloc = rt.alloc();
     let setup = program(alloc, BOUND)?.setup(alloc, 2)?;
-    let found = format!(in alloc; "{setup:?}")?;
-    let wanted =
-        "Setup { procs: 2, locks: 3, bars: 1, cells: 5, bindings: [\
-        Piece { object: Lock(Lock(1)), first: Cell(1), count: 2, owner: 0, phase: 0, period: 0 }, \
+    let counts = (setup.procs, setup.locks, setup.bars, setup.cells);
+    assert_eq!(rt; counts, (2, 3, 1, 5));
+    let pieces = format!(in alloc; "{:?}", setup.bindings.as_slice())?;
+    const WANTED: &str =
+        "[Piece { object: Lock(Lock(1)), first: Cell(1), count: 2, owner: 0, phase: 0, period: 0 }, \
         Piece { object: Lock(Lock(2)), first: Cell(3), count: 2, owner: 0, phase: 0, period: 0 }, \
-        Piece { object: Bar(Bar(0)), first: Cell(0), count: 1, owner: 1, phase: 2, period: 3 }] }";
-    assert_eq!(rt; found.as_str(), wanted);
+        Piece { object: Bar(Bar(0)), first: Cell(0), count: 1, owner: 1, phase: 2, period: 3 }]";
+    assert_eq!(rt; pieces.as_str(), WANTED);
     Ok(())
 }
 

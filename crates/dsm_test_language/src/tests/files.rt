@@ -30,15 +30,30 @@ fn names_of_a_file(rt: HostRuntime) -> Result<(), Fail> {
         ("int a; int a[0];", "twice a 1"),
         ("int a[0]; int a;", "wrong kind a 1"),
         ("lock_t L[257];", "Limit { which: Locks, count: 257 }"),
-        ("lock_t L[200], M[57];", "Limit { which: Locks, count: 257 }"),
-        ("shared int a[65537];", "Limit { which: SharedCells, count: 65537 }"),
-        ("int a[16385];", "Limit { which: PrivateCells, count: 16385 }"),
-        ("int a[16384], b;", "Limit { which: PrivateCells, count: 16385 }"),
+        (
+            "lock_t L[200], M[57];",
+            "Limit { which: Locks, count: 257 }",
+        ),
+        (
+            "shared int a[65537];",
+            "Limit { which: SharedCells, count: 65537 }",
+        ),
+        (
+            "int a[16385];",
+            "Limit { which: PrivateCells, count: 16385 }",
+        ),
+        (
+            "int a[16384], b;",
+            "Limit { which: PrivateCells, count: 16385 }",
+        ),
         (
             "shared int a[9223372036854775807];",
             "Limit { which: SharedCells, count: 4294967295 }",
         ),
-        ("int a[16385], b[0];", "Limit { which: PrivateCells, count: 16385 }"),
+        (
+            "int a[16385], b[0];",
+            "Limit { which: PrivateCells, count: 16385 }",
+        ),
         ("int a[16384], b[0];", "wrong kind b 1"),
         ("lock_t L[256]; lock_t L;", "twice L 1"),
         ("int b[0], a[16385];", "wrong kind b 1"),
@@ -49,7 +64,10 @@ fn names_of_a_file(rt: HostRuntime) -> Result<(), Fail> {
         ("int main(int a, int b, int c) {}", "NoMain"),
         ("void main(int me, int n) {}", "NoMain"),
         ("int a; int b; int a; lock_t L[257];", "twice a 1"),
-        ("lock_t L[257]; int a; int a;", "Limit { which: Locks, count: 257 }"),
+        (
+            "lock_t L[257]; int a; int a;",
+            "Limit { which: Locks, count: 257 }",
+        ),
         ("int main; int main(int me, int n) {}", "twice main 1"),
         ("int f() { break; }", "NoMain"),
         ("int f() { break; } int a; int a;", "twice a 1"),
@@ -111,7 +129,12 @@ fn barriers_have_a_limit(rt: HostRuntime) -> Result<(), Fail> {
         (65, "Limit { which: Barriers, count: 65 }"),
     ];
     for &(count, wanted) in TABLE {
-        is_answered(&rt, rt.alloc(), barriers(rt.alloc(), count)?.as_str(), wanted)?;
+        is_answered(
+            &rt,
+            rt.alloc(),
+            barriers(rt.alloc(), count)?.as_str(),
+            wanted,
+        )?;
     }
     Ok(())
 }
@@ -123,7 +146,12 @@ fn functions_have_a_limit(rt: HostRuntime) -> Result<(), Fail> {
         (256, "Limit { which: Functions, count: 257 }"),
     ];
     for &(count, wanted) in TABLE {
-        is_answered(&rt, rt.alloc(), functions(rt.alloc(), count)?.as_str(), wanted)?;
+        is_answered(
+            &rt,
+            rt.alloc(),
+            functions(rt.alloc(), count)?.as_str(),
+            wanted,
+        )?;
     }
     Ok(())
 }

@@ -103,7 +103,10 @@ fn other_texts_are_refused(rt: HostRuntime) -> Result<(), Fail> {
         // What can't be run yet.
         ("procs 3\n", SchedErr::NotBuilt { line: 1 }),
         ("procs 2\nstep 0\nckpt 0\n", SchedErr::NotBuilt { line: 3 }),
-        ("procs 2\ncrash 0\nrestart 0\n", SchedErr::NotBuilt { line: 2 }),
+        (
+            "procs 2\ncrash 0\nrestart 0\n",
+            SchedErr::NotBuilt { line: 2 },
+        ),
         // Two crashes, and a restart without one.
         (
             "procs 2\ncrash 0\nrestart 0\ncrash 1\n",

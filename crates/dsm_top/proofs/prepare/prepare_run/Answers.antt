@@ -23,4 +23,3 @@ returns-clause-accepted g c = record {
   has_program = c.in_ok-program.ensures.program;
   has_schedule = subst (λ files. HasSchedule files (string_bytes c.args.schedule.now) c.in_ok-schedule.schedule.entries) c.small_of.ensures.keeps.same c.in_ok-schedule.ensures.schedule;
 }
-
