@@ -2,7 +2,7 @@
 use Rattle.std.proofs.Common.{replicate, ◌≡◌, ◌∙◌, ℕ, zero, suc, ◌+◌, ◌<◌, ◌≤◌, ◌^◌, Bool, true, false, List, [], ◌∷◌, ◌++◌, length, take, Option, Some, None, Result, Ok, Err, refl, sym, ap, subst, append_assoc, arith}
 use Rattle.std.proofs.lemmas.List.{append-nil, length-replicate}
 use Rattle.dsm_base.specs.BigEndian.{IsBytes}
-use Rattle.dsm_msg.specs.Fields.{Field, number, is_fit, are_fit, bytes_of, entries, counted, Reaches, NoneGoesOn, IsCut, Breaks}
+use Rattle.dsm_msg.specs.Fields.{Field, number, is_fit, are_fit, bytes_of, entries, counted, Any, Reaches, NoneGoesOn, IsCut, Breaks}
 use Rattle.dsm_msg.specs.Reading.{Fault, Cut, Broken, Read, then_with, number_at, entries_at, counted_at}
 use Rattle.dsm_msg.proofs.Exact.{Took, Exact, done}
 use Rattle.dsm_msg.proofs.Chain.{At, chain}
@@ -56,9 +56,6 @@ of_part {A} {Z} IsA fa ra Is from make ea made back isa one =
 
 abbrev pub Has : {A : Type 0} → ℕ → List A → Type 0
 Has count items = length items ≡ count
-
-abbrev pub Any : {A : Type 0} → A → Type 0
-Any value = Unit {0}
 
 abbrev head_or : {A : Type 0} → A → List A → A
 head_or default [] = default

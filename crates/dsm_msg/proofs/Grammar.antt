@@ -18,12 +18,12 @@ use Rattle.dsm_lines.specs.declared.of_objects.Version.{Version}
 use Rattle.dsm_lines.specs.declared.of_objects.Arrival.{Arrival}
 use Rattle.dsm_msg.specs.declared.message.Carry.{Carry}
 use Rattle.dsm_msg.specs.declared.message.Report.{Report}
-use Rattle.dsm_msg.specs.Fields.{Field, number, byte, signed, is_over, are_fit, entries, counted}
+use Rattle.dsm_msg.specs.Fields.{Any, Field, number, byte, signed, is_over, are_fit, entries, counted}
 use Rattle.dsm_msg.specs.Spelling.{record_fields, pending_fields, grant_fields, opening_fields, bar_stand_fields, lock_number_fields, bar_number_fields, lock_stand_fields, value_fields, line_fields, version_fields, arrival_fields, carry_fields, report_fields, is_from, is_second_over, version_place, arrival_place}
 use Rattle.dsm_msg.specs.Reading.{Read, then_with, kept, number_at, byte_at, counted_at, value_at, record_at, pending_at, grant_at, opening_at, bar_stand_at, lock_number_at, bar_number_at, lock_stand_at, line_at, version_at, arrival_at, carry_at, report_at}
 use Rattle.dsm_msg.proofs.Exact.{Exact, done}
 use Rattle.dsm_msg.proofs.Chain.{At, chain}
-use Rattle.dsm_msg.proofs.Formats.{Any, Has, reworded, of_part, listed, counted_list}
+use Rattle.dsm_msg.proofs.Formats.{Has, reworded, of_part, listed, counted_list}
 use Rattle.dsm_msg.proofs.Numbers.{number_exact, any_number, byte_exact, any_byte, mode_exact, bool_exact, signed_exact, text_exact}
 
 -- any value of the first, and then the second
@@ -166,7 +166,7 @@ line_exact last =
         (λ count. (made number (replicate count (pos 0)), record { is = put tt; same = length-replicate count (pos 0) })))
       (λ number. (made number [], put tt))
 
-no_line : Line
+abbrev pub no_line : Line
 no_line = record { number = 0; values = [] }
 
 pub lines_exact : Exact Any (counted line_fields) (counted_at line_at)

@@ -6,6 +6,7 @@ use Rattle.dsm_base.specs.declared.names.Mode.{Mode}
 use Rattle.dsm_base.specs.declared.lists.LockNumber.{LockNumber}
 use Rattle.dsm_base.specs.declared.lists.BarNumber.{BarNumber}
 use Rattle.dsm_lines.specs.declared.list.Line.{Line}
+
 use Rattle.dsm_msg.specs.declared.message.Report.{Report}
 use Rattle.dsm_msg.specs.declared.message.TurnBody.{TurnBody}
 use Rattle.dsm_msg.specs.declared.message.Body.{Body}
@@ -36,3 +37,19 @@ out_opened bar epoch lines = ap out-Body (bodies.rolls-Opened bar epoch lines) �
 pub out_pruned : (turn : ℕ) (versions : List LockNumber) (crossings : List BarNumber) → out-Body (bodies.Pruned turn versions crossings) ≡ layer.Pruned turn versions crossings
 unfolding roll-Body out-Body denote.Hole.Carrier.roll
 out_pruned turn versions crossings = ap out-Body (bodies.rolls-Pruned turn versions crossings) ∙ out-roll-Body (layer.Pruned turn versions crossings)
+
+pub out_note : out-Body bodies.Note ≡ layer.Note
+unfolding roll-Body out-Body denote.Hole.Carrier.roll
+out_note = ap out-Body bodies.rolls-Note ∙ out-roll-Body layer.Note
+
+pub out_ack : out-Body bodies.Ack ≡ layer.Ack
+unfolding roll-Body out-Body denote.Hole.Carrier.roll
+out_ack = ap out-Body bodies.rolls-Ack ∙ out-roll-Body layer.Ack
+
+pub out_resync : (list : List TurnBody) → out-Body (bodies.Resync list) ≡ layer.Resync list
+unfolding roll-Body out-Body denote.Hole.Carrier.roll
+out_resync list = ap out-Body (bodies.rolls-Resync list) ∙ out-roll-Body (layer.Resync list)
+
+pub out_report : (report : Report) → out-Body (bodies.Report report) ≡ layer.Report report
+unfolding roll-Body out-Body denote.Hole.Carrier.roll
+out_report report = ap out-Body (bodies.rolls-Report report) ∙ out-roll-Body (layer.Report report)

@@ -7,3 +7,5 @@ pub mod Atoms
 pub mod Formats
 pub mod Numbers
 pub mod Grammar
+pub mod Bodies
+pub mod Message

@@ -15,12 +15,12 @@ use Rattle.dsm_base.specs.BigEndian.{IsBytes, signed_bytes}
 use Rattle.dsm_base.proofs.BigEndian.{read_number, same_number}
 use Rattle.dsm_base.specs.declared.names.Mode.{Mode}
 use Rattle.dsm_base.specs.declared.names.Mode.TheVariants.{Shared, Excl}
-use Rattle.dsm_msg.specs.Fields.{Field, byte, number, signed, is_fit}
+use Rattle.dsm_msg.specs.Fields.{Any, Field, byte, number, signed, is_fit}
 use Rattle.dsm_msg.specs.Spelling.{mode_number, bool_number, is_printable, text}
 use Rattle.dsm_msg.specs.Reading.{Fault, Cut, Broken, Read, then_with, kept, byte_at, number_at, signed_at, mode_at, bool_at, text_at}
 use Rattle.dsm_msg.proofs.Exact.{Exact, both_true}
 use Rattle.dsm_msg.proofs.Atoms.{Whole, fits, none, IsAtom, atom}
-use Rattle.dsm_msg.proofs.Formats.{Any, Has}
+use Rattle.dsm_msg.proofs.Formats.{Has}
 
 bool_cases : (b : Bool) → (P : Type 0) → (b ≡ true → P) → (b ≡ false → P) → P
 bool_cases true P when_true when_false = when_true refl
@@ -121,8 +121,8 @@ byte_atom Is keeps ok value is to from kept_so = record {
           (rw (byte_reads b rest, failed) refl)));
 }
 
-pub byte_exact : (ok : ℕ → Bool) (value : ℕ) → Exact Any (λ n. byte n (ok n) ∷ []) (kept ok byte_at)
-byte_exact ok value = atom Any (λ n. byte n (ok n)) 1 (kept ok byte_at) (byte_atom Any ok ok value tt (λ n is e. e) (λ n e. tt) (λ n e. e))
+pub byte_exact : (ok : ℕ → Bool) → Exact Any (λ n. byte n (ok n) ∷ []) (kept ok byte_at)
+byte_exact ok = atom Any (λ n. byte n (ok n)) 1 (kept ok byte_at) (byte_atom Any ok ok 0 tt (λ n is e. e) (λ n e. tt) (λ n e. e))
 
 pub any_byte : Exact Any (λ n. byte n true ∷ []) byte_at
 any_byte = plain Any (λ n. byte n true) 1 byte_at (byte_atom Any (λ _. true) (λ _. true) 0 tt (λ n is e. refl) (λ n e. tt) (λ n e. refl))

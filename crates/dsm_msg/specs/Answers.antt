@@ -3,6 +3,8 @@ use Rattle.std.specs.Prelude.{◌≡◌, ℕ, ◌+◌, ◌-◌, ◌<◌, Bool, f
 use Rattle.dsm_msg.specs.declared.message.Msg.{Msg}
 use Rattle.dsm_msg.specs.declared.error.MsgErr.{MsgErr}
 use Rattle.dsm_msg.specs.declared.error.MsgErr.TheVariants as errors
+use Rattle.dsm_msg.specs.Fields.{Any, IsCut, Breaks}
+use Rattle.dsm_msg.specs.Spelling.{is_kind, message_fields, spelling, IsMessage}
 use Rattle.dsm_msg.specs.Reading.{Fault, Cut, Broken, Read}
 
 -- the refusal of a field that begins where so many bytes are left
@@ -25,3 +27,43 @@ OrMemory (Err (errors.BadKind kind)) P = P
 OrMemory (Err (errors.BadField place)) P = P
 OrMemory (Err (errors.Rest count)) P = P
 OrMemory (Ok msg) P = P
+
+-- the bytes break a field that begins at this place, behind the first byte
+pub record IsBadField (place : ℕ) (bytes : List ℕ) : Type 0 where
+  pub left : ℕ
+  pub breaks : Breaks Any message_fields bytes left
+  pub place : place + left ≡ length bytes
+  pub behind : 0 < place
+
+-- the first byte is no kind
+pub record IsBadKind (kind : ℕ) (bytes : List ℕ) : Type 0 where
+  pub rest : List ℕ
+  pub parts : bytes ≡ kind ∷ rest
+  pub no_kind : is_kind kind ≡ false
+
+-- a message, and so many bytes behind it
+pub record HasRest (count : ℕ) (bytes : List ℕ) : Type 0 where
+  pub msg : Msg
+  pub message : IsMessage msg
+  pub rest : List ℕ
+  pub parts : bytes ≡ spelling msg ++ rest
+  pub count : count ≡ length rest
+  pub some : 0 < count
+
+-- the bytes spell this message
+pub record Spells (bytes : List ℕ) (msg : Msg) : Type 0 where
+  pub message : IsMessage msg
+  pub bytes : bytes ≡ spelling msg
+
+-- The answer that fits the bytes. Of a message and the four refusals exactly one does.
+abbrev pub IsAnswer : Result Msg MsgErr → List ℕ → Type 0
+IsAnswer (Ok msg) bytes = Spells bytes msg
+IsAnswer (Err errors.Short) bytes = IsCut Any message_fields bytes
+IsAnswer (Err (errors.BadKind kind)) bytes = IsBadKind kind bytes
+IsAnswer (Err (errors.BadField place)) bytes = IsBadField place bytes
+IsAnswer (Err (errors.Rest count)) bytes = HasRest count bytes
+IsAnswer (Err errors.Memory) bytes = ⊥
+
+-- no spelling of a message begins another's
+abbrev pub NoPrefix : Type 0
+NoPrefix = (a b : Msg) (rest : List ℕ) → IsMessage a → IsMessage b → spelling a ++ rest ≡ spelling b → (a ≡ b) × (rest ≡ [])

@@ -56,6 +56,10 @@ pub record Reaches {A : Type 0} (fields : A → List Field) (bytes : List ℕ) (
   pub fit : are_fit front ≡ true
   pub goes : bytes ≡ bytes_of front ++ left
 
+-- any value
+abbrev pub Any : {A : Type 0} → A → Type 0
+Any value = Unit {0}
+
 -- no value that goes on behind the same fields has these bytes in a fit field
 abbrev pub NoneGoesOn : {A : Type 0} → (A → Type 0) → (A → List Field) → List Field → List ℕ → Type 0
 NoneGoesOn {A} Is fields front bytes =

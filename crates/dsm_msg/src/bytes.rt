@@ -1,10 +1,12 @@
 //! Messages as bytes.
 
-ghost use Rattle.std.specs.Prelude.{◌≡◌, ◌⊎◌, OnOk};
+ghost use Rattle.std.specs.Prelude.{◌≡◌, ◌⊎◌, ◌++◌, Result, OnOk};
+ghost use Rattle.dsm_msg.specs.declared.error.MsgErr.{MsgErr};
+ghost use Rattle.dsm_msg.specs.declared.message.Msg.{Msg};
 ghost use Rattle.dsm_msg.specs.Fields.{Appends};
-ghost use Rattle.dsm_msg.specs.Spelling.{carry_fields, message_fields};
+ghost use Rattle.dsm_msg.specs.Spelling.{carry_fields, message_fields, spelling, IsInOrder, IsMessage};
 ghost use Rattle.dsm_msg.specs.Reading.{Gives, carry_at, message_at};
-ghost use Rattle.dsm_msg.specs.Answers.{OrMemory, answer_of, fault_of};
+ghost use Rattle.dsm_msg.specs.Answers.{OrMemory, IsAnswer, NoPrefix, answer_of, fault_of};
 
 use crate::body::{body, kind_of, put_body};
 use crate::entry::{counted, put_counted};
@@ -113,4 +115,31 @@ fn answer(alloc: Global, bytes: &[u8]) -> Result<Msg, MsgErr>
         Err(FieldErr::Broken { left }) => Err(fault_at(bytes, left)),
         Err(FieldErr::Memory) => Err(MsgErr::Memory),
     }
+}
+
+/// Appends the one spelling of the message. A list that is too long for its count is answered as out of
+/// memory.
+pub fn write_msg(msg: &Msg, out: &mut Vec<u8>) -> Result<(), MemFault>
+    requires { IsInOrder msg.now }
+    ensures written { OnOk result (out.new.items ≡ out.old.items ++ spelling msg.now) }
+    ensures message { OnOk result (IsMessage msg.now) }
+{
+    put_message(out, msg)
+}
+
+/// The message that the bytes spell, all of them, or the first fault from the left: `Short`, where they
+/// end before the message does; `BadKind`, where the first byte is no kind; `BadField`, with the place of
+/// the first field that breaks its range or its order; `Rest`, with the count of bytes behind a whole
+/// message. `Memory` also where a place or a count is over 32 bits.
+pub fn read_msg(alloc: Global, bytes: &[u8]) -> Result<Msg, MsgErr>
+    ensures fits { OrMemory result (IsAnswer result bytes.now) }
+    ensures only { (other : Result Msg MsgErr) → IsAnswer other bytes.now → OrMemory result (result ≡ other) }
+{
+    answer(alloc, bytes)
+}
+
+/// No spelling of a message begins another's.
+pub fn no_spelling_begins_another()
+    ensures { NoPrefix }
+{
 }
