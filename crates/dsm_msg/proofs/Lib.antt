@@ -8,4 +8,4 @@ pub mod Formats
 pub mod Numbers
 pub mod Grammar
 pub mod Bodies
-pub mod Message
+pub mod Answering

@@ -32,7 +32,7 @@ OrMemory (Ok msg) P = P
 pub record IsBadField (place : ℕ) (bytes : List ℕ) : Type 0 where
   pub left : ℕ
   pub breaks : Breaks Any message_fields bytes left
-  pub place : place + left ≡ length bytes
+  pub ends : place + left ≡ length bytes
   pub behind : 0 < place
 
 -- the first byte is no kind
@@ -47,13 +47,13 @@ pub record HasRest (count : ℕ) (bytes : List ℕ) : Type 0 where
   pub message : IsMessage msg
   pub rest : List ℕ
   pub parts : bytes ≡ spelling msg ++ rest
-  pub count : count ≡ length rest
+  pub counts : count ≡ length rest
   pub some : 0 < count
 
 -- the bytes spell this message
 pub record Spells (bytes : List ℕ) (msg : Msg) : Type 0 where
   pub message : IsMessage msg
-  pub bytes : bytes ≡ spelling msg
+  pub spelled : bytes ≡ spelling msg
 
 -- The answer that fits the bytes. Of a message and the four refusals exactly one does.
 abbrev pub IsAnswer : Result Msg MsgErr → List ℕ → Type 0

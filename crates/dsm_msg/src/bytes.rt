@@ -117,12 +117,11 @@ fn answer(alloc: Global, bytes: &[u8]) -> Result<Msg, MsgErr>
     }
 }
 
-/// Appends the one spelling of the message. A list that is too long for its count is answered as out of
-/// memory.
+/// Appends the one spelling of a message that keeps each range and order. A list that is too long for
+/// its count is answered as out of memory.
 pub fn write_msg(msg: &Msg, out: &mut Vec<u8>) -> Result<(), MemFault>
-    requires { IsInOrder msg.now }
     ensures written { OnOk result (out.new.items ≡ out.old.items ++ spelling msg.now) }
-    ensures message { OnOk result (IsMessage msg.now) }
+    ensures message { OnOk result (IsInOrder msg.now → IsMessage msg.now) }
 {
     put_message(out, msg)
 }

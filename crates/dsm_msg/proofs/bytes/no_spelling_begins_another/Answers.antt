@@ -1,4 +1,4 @@
-use Rattle.dsm_msg.proofs.Message.{no_prefix}
+use Rattle.dsm_msg.proofs.Answering.{no_prefix}
 use Rattle.dsm_msg.proofs.bytes.no_spelling_begins_another.Goals as goal
 
 pub returns : goal.returns

@@ -1,5 +1,5 @@
 -- Messages have an exact reader, and what follows for the answers.
-use Rattle.std.proofs.Common.{◌≡◌, ◌≢◌, ◌∙◌, ℕ, zero, suc, ◌+◌, ◌-◌, ◌<◌, ◌≤◌, Bool, true, false, List, [], ◌∷◌, ◌++◌, length, take, Result, Ok, Err, refl, sym, ap, subst, arith, true≢false, eqb-true}
+use Rattle.std.proofs.Common.{cond, ◌≡◌, ◌≢◌, ◌∙◌, ℕ, zero, suc, ◌+◌, ◌-◌, ◌<◌, ◌≤◌, Bool, true, false, List, [], ◌∷◌, ◌++◌, length, take, Result, Ok, Err, refl, sym, ap, subst, arith, true≢false, eqb-true}
 use Rattle.std.specs.Prelude.{◌&&◌, ◌==◌}
 use Rattle.std.proofs.lemmas.Bool.{eq-eqb, ne_eqb}
 use Rattle.std.proofs.lemmas.List.{append-nil, length-append}
@@ -12,7 +12,7 @@ use Rattle.dsm_msg.specs.declared.message.Body.{Body}
 use Rattle.dsm_msg.specs.Fields.{Field, byte, number, is_fit, are_fit, are_held, bytes_of, Any, IsCut, Breaks}
 use Rattle.dsm_msg.specs.Spelling.{carry_fields, body_fields, message_fields, spelling, IsMessage, are_kept, kind_of, is_kind, is_proc, is_other}
 use Rattle.dsm_msg.specs.Reading.{Fault, Cut, Broken, Read, then_with, kept, byte_at, carry_at, body_at, message_at}
-use Rattle.dsm_msg.specs.Answers.{answer_of, fault_of, IsAnswer}
+use Rattle.dsm_msg.specs.Answers.{answer_of, fault_of, IsAnswer, OrMemory}
 use Rattle.dsm_msg.proofs.Exact.{Exact, both_true, same_read}
 use Rattle.dsm_msg.proofs.Chain.{At, chain}
 use Rattle.dsm_msg.proofs.Numbers.{byte_exact, some_byte}
@@ -98,7 +98,7 @@ faulty kind more left true same b =
 faulty kind more left false same b =
     let long : length (kind ∷ more) ≡ length (bytes_of b.front) + length b.rest = ap length b.reaches.goes ∙ length-append (bytes_of b.front) b.rest in
     let differs : left ≢ length (kind ∷ more) = λ e. true≢false (sym (eq-eqb _ _ e) ∙ same) in
-    record { left = left; breaks = b; place = omega (arith, long, b.at); behind = omega (arith, long, b.at, differs) }
+    record { left = left; breaks = b; ends = omega (arith, long, b.at); behind = omega (arith, long, b.at, differs) }
 
 at_fault : (bytes : List ℕ) (left : ℕ) → IsBytes bytes → message_at bytes ≡ Err (Broken left) → IsAnswer (Err (fault_of bytes left)) bytes
 at_fault [] left small e = absurd (not_empty left e)
@@ -107,10 +107,10 @@ at_fault (kind ∷ more) left small e = faulty kind more left (left == length (k
 fits_read : (bytes : List ℕ) (read : Read Msg) → IsBytes bytes → message_at bytes ≡ read → IsAnswer (answer_of bytes read) bytes
 fits_read bytes (Ok (msg, [])) small e =
     let t = message_exact.took bytes msg [] small e in
-    record { message = t.fit; bytes = t.parts ∙ append-nil (spelling msg) }
+    record { message = t.fit; spelled = t.parts ∙ append-nil (spelling msg) }
 fits_read bytes (Ok (msg, byte ∷ rest)) small e =
     let t = message_exact.took bytes msg (byte ∷ rest) small e in
-    record { msg = msg; message = t.fit; rest = byte ∷ rest; parts = t.parts; count = refl; some = omega arith }
+    record { msg = msg; message = t.fit; rest = byte ∷ rest; parts = t.parts; counts = refl; some = omega arith }
 fits_read bytes (Err Cut) small e = message_exact.cut bytes small e
 fits_read bytes (Err (Broken left)) small e = at_fault bytes left small e
 
@@ -135,17 +135,17 @@ field_fault (kind ∷ more) place left e behind =
 -- what fits the bytes is what reading gives
 pub only_answer : (answer : Result Msg MsgErr) (bytes : List ℕ) → IsBytes bytes → IsAnswer answer bytes → answer_of bytes (message_at bytes) ≡ answer
 only_answer (Ok msg) bytes small fits =
-    let read : message_at bytes ≡ Ok (msg, []) = ap message_at (fits.bytes ∙ sym (append-nil (spelling msg))) ∙ message_exact.again msg [] tt fits.message in
+    let read : message_at bytes ≡ Ok (msg, []) = ap message_at (fits.spelled ∙ sym (append-nil (spelling msg))) ∙ message_exact.again msg [] tt fits.message in
     ap (answer_of bytes) read
 only_answer (Err errors.Short) bytes small fits = ap (answer_of bytes) (message_exact.ends bytes small fits)
 only_answer (Err (errors.BadKind kind)) bytes small fits =
     let read : message_at bytes ≡ Err (Broken (length (kind ∷ fits.rest))) = ap message_at fits.parts ∙ bad_kind kind fits.rest fits.no_kind in
     ap (answer_of bytes) read ∙ ap (λ (w : List ℕ). let answer : Result Msg MsgErr = Err (fault_of w (length (kind ∷ fits.rest))) in answer) fits.parts ∙ ap (λ (e : MsgErr). let answer : Result Msg MsgErr = Err e in answer) (kind_fault kind fits.rest)
 only_answer (Err (errors.BadField place)) bytes small fits =
-    ap (answer_of bytes) (message_exact.breaks bytes fits.left small fits.breaks) ∙ ap (λ (e : MsgErr). let answer : Result Msg MsgErr = Err e in answer) (field_fault bytes place fits.left fits.place fits.behind)
+    ap (answer_of bytes) (message_exact.breaks bytes fits.left small fits.breaks) ∙ ap (λ (e : MsgErr). let answer : Result Msg MsgErr = Err e in answer) (field_fault bytes place fits.left fits.ends fits.behind)
 only_answer (Err (errors.Rest count)) bytes small fits =
     let read : message_at bytes ≡ Ok (fits.msg, fits.rest) = ap message_at fits.parts ∙ message_exact.again fits.msg fits.rest tt fits.message in
-    ap (answer_of bytes) read ∙ rest_of_read bytes fits.msg fits.rest (subst (λ (n : ℕ). 0 < n) fits.count fits.some) ∙ ap (λ (n : ℕ). let answer : Result Msg MsgErr = Err (errors.Rest n) in answer) (sym fits.count)
+    ap (answer_of bytes) read ∙ rest_of_read bytes fits.msg fits.rest (subst (λ (n : ℕ). 0 < n) fits.counts fits.some) ∙ ap (λ (n : ℕ). let answer : Result Msg MsgErr = Err (errors.Rest n) in answer) (sym fits.counts)
 only_answer (Err errors.Memory) bytes small fits = absurd fits
 
 -- no spelling begins another's
@@ -161,3 +161,13 @@ fit_fields (field ∷ fields) held kept =
     let h = both_true field.holds (are_held fields) held in
     let k = both_true field.keeps (are_kept fields) kept in
     rw (h.0, k.0, fit_fields fields h.1 k.1) refl
+
+-- ---- out of memory, or else
+
+pub or_weaker : {P Q : Type 0} (result : Result Msg MsgErr) → (P → Q) → OrMemory result P → OrMemory result Q
+or_weaker (Ok msg) f p = f p
+or_weaker (Err errors.Short) f p = f p
+or_weaker (Err (errors.BadKind kind)) f p = f p
+or_weaker (Err (errors.BadField place)) f p = f p
+or_weaker (Err (errors.Rest count)) f p = f p
+or_weaker (Err errors.Memory) f p = tt
