@@ -1,6 +1,6 @@
 -- Messages have an exact reader, and what follows for the answers.
-use Rattle.std.proofs.Common.{cond, ◌≡◌, ◌≢◌, ◌∙◌, ℕ, zero, suc, ◌+◌, ◌-◌, ◌<◌, ◌≤◌, Bool, true, false, List, [], ◌∷◌, ◌++◌, length, take, Result, Ok, Err, refl, sym, ap, subst, arith, true≢false, eqb-true}
-use Rattle.std.specs.Prelude.{◌&&◌, ◌==◌}
+use Rattle.std.proofs.Common.{cond, ◌≡◌, ◌≢◌, ◌∙◌, ℕ, ◌+◌, ◌-◌, ◌<◌, Bool, true, false, List, [], ◌∷◌, ◌++◌, length, take, Result, Ok, Err, refl, sym, ap, subst, arith, true≢false, eqb-true}
+use Rattle.std.specs.Prelude.{◌==◌}
 use Rattle.std.proofs.lemmas.Bool.{eq-eqb, ne_eqb}
 use Rattle.std.proofs.lemmas.List.{append-nil, length-append}
 use Rattle.dsm_base.specs.BigEndian.{IsBytes}
@@ -9,15 +9,15 @@ use Rattle.dsm_msg.specs.declared.error.MsgErr.TheVariants as errors
 use Rattle.dsm_msg.specs.declared.message.Carry.{Carry}
 use Rattle.dsm_msg.specs.declared.message.Msg.{Msg}
 use Rattle.dsm_msg.specs.declared.message.Body.{Body}
-use Rattle.dsm_msg.specs.Fields.{Field, byte, number, is_fit, are_fit, are_held, bytes_of, Any, IsCut, Breaks}
+use Rattle.dsm_msg.specs.Fields.{Field, byte, are_fit, are_held, bytes_of, Any, Breaks}
 use Rattle.dsm_msg.specs.Spelling.{carry_fields, body_fields, message_fields, spelling, IsMessage, are_kept, kind_of, is_kind, is_proc, is_other}
-use Rattle.dsm_msg.specs.Reading.{Fault, Cut, Broken, Read, then_with, kept, byte_at, carry_at, body_at, message_at}
+use Rattle.dsm_msg.specs.Reading.{Cut, Broken, Read, then_with, kept, byte_at, carry_at, body_at, message_at}
 use Rattle.dsm_msg.specs.Answers.{answer_of, fault_of, IsAnswer, OrMemory}
 use Rattle.dsm_msg.proofs.Exact.{Exact, both_true, same_read}
 use Rattle.dsm_msg.proofs.Chain.{At, chain}
 use Rattle.dsm_msg.proofs.Numbers.{byte_exact, some_byte}
 use Rattle.dsm_msg.proofs.Grammar.{step, put, rest_of, known, carry_exact}
-use Rattle.dsm_msg.proofs.Bodies.{IsKind, Body_of, of_kind, body_exact, kind_in_range}
+use Rattle.dsm_msg.proofs.Bodies.{of_kind, body_exact, kind_in_range}
 
 abbrev no_carry : Carry
 no_carry = record { turn = 0; seen = 0; records = []; lines = [] }
@@ -35,23 +35,23 @@ pub message_exact : Exact Any message_fields message_at
 unfolding message_at
 message_exact =
     chain (λ k. is_kind k ≡ true) (λ k. byte k true ∷ []) (kept is_kind byte_at) Any (λ m. kind_of m.body)
-      (λ m. byte m.from.0 (is_proc m.from.0) ∷ byte m.to.0 (is_other m.from.0 m.to.0) ∷ (carry_fields m.carry ++ body_fields m.body))
-      (λ kind bytes. then_with (kept is_proc byte_at bytes) (λ from bytes. then_with (kept (is_other from) byte_at bytes) (λ to bytes. then_with (carry_at bytes) (λ carry bytes. then_with (body_at kind bytes) (λ body bytes. Ok (made from to carry body, bytes))))))
-      (some_byte is_kind (λ _. true) (λ k. is_kind k ≡ true) 1 refl (λ n is e. is) (λ n e. e) (λ n e. refl))
-      (λ kind is fit.
-        let some = of_kind kind is in
-        step (byte_exact is_proc)
-          (λ from. known (λ m. byte m.to.0 (is_other m.from.0 m.to.0) ∷ (carry_fields m.carry ++ body_fields m.body))
-            (λ m at. ap (λ (f : ℕ). byte m.to.0 (is_other f m.to.0) ∷ (carry_fields m.carry ++ body_fields m.body)) at.same)
-            (step (byte_exact (is_other from))
-              (λ to. step carry_exact
-                (λ carry. rest_of (At (At (At (OfKind kind) (λ m. m.from.0) from) (λ m. m.to.0) to) (λ m. m.carry) carry) (λ m. m.body) (made from to carry) (body_exact kind is)
-                  (λ body e. put (put (put (start kind from to carry body e)))) (λ body. refl) (λ m at. at.is.is.is.same) (λ m at. rw (← at.same, ← at.is.same, ← at.is.is.same) refl))
-                (λ carry. (made from to carry some.0, put (put (put (start kind from to carry some.0 some.1))))))
-              (λ to. (made from to no_carry some.0, put (put (start kind from to no_carry some.0 some.1))))))
-          (λ from. (made from 0 no_carry some.0, put (start kind from 0 no_carry some.0 some.1))))
-      (λ kind is. let some = of_kind kind is in (made 0 0 no_carry some.0, start kind 0 0 no_carry some.0 some.1))
-      (λ m is. kind_in_range m.body)
+    (λ m. byte m.from.0 (is_proc m.from.0) ∷ byte m.to.0 (is_other m.from.0 m.to.0) ∷ (carry_fields m.carry ++ body_fields m.body))
+    (λ kind bytes. then_with (kept is_proc byte_at bytes) (λ from bytes. then_with (kept (is_other from) byte_at bytes) (λ to bytes. then_with (carry_at bytes) (λ carry bytes. then_with (body_at kind bytes) (λ body bytes. Ok (made from to carry body, bytes))))))
+    (some_byte is_kind (λ _. true) (λ k. is_kind k ≡ true) 1 refl (λ n is e. is) (λ n e. e) (λ n e. refl))
+    (λ kind is fit.
+    let some = of_kind kind is in
+    step (byte_exact is_proc)
+    (λ from. known (λ m. byte m.to.0 (is_other m.from.0 m.to.0) ∷ (carry_fields m.carry ++ body_fields m.body))
+    (λ m at. ap (λ (f : ℕ). byte m.to.0 (is_other f m.to.0) ∷ (carry_fields m.carry ++ body_fields m.body)) at.same)
+    (step (byte_exact (is_other from))
+    (λ to. step carry_exact
+    (λ carry. rest_of (At (At (At (OfKind kind) (λ m. m.from.0) from) (λ m. m.to.0) to) (λ m. m.carry) carry) (λ m. m.body) (made from to carry) (body_exact kind is)
+    (λ body e. put (put (put (start kind from to carry body e)))) (λ body. refl) (λ m at. at.is.is.is.same) (λ m at. rw (← at.same, ← at.is.same, ← at.is.is.same) refl))
+    (λ carry. (made from to carry some.0, put (put (put (start kind from to carry some.0 some.1))))))
+    (λ to. (made from to no_carry some.0, put (put (start kind from to no_carry some.0 some.1))))))
+    (λ from. (made from 0 no_carry some.0, put (start kind from 0 no_carry some.0 some.1))))
+    (λ kind is. let some = of_kind kind is in (made 0 0 no_carry some.0, start kind 0 0 no_carry some.0 some.1))
+    (λ m is. kind_in_range m.body)
 
 -- ---- the first field
 
@@ -78,11 +78,11 @@ no_kind kind more b =
     let first = first_breaks kind more b.front b.value b.field b.reaches.back b.rest b.reaches.parts b.reaches.goes (sym b.at) in
     let rest_is : kind ∷ more ≡ b.rest = b.reaches.goes ∙ ap (λ (w : List Field). bytes_of w ++ b.rest) first.0 in
     decide (is_kind kind) refl (λ is.
-      let some = of_kind kind is in
-      let m = made 0 0 no_carry some.0 in
-      let taken : kind_of some.0 ∷ [] ≡ take (length b.field.bytes) b.rest =
-        ap (λ (k : ℕ). k ∷ []) some.1 ∙ rw (first.1, ← rest_is) refl in
-      absurd (true≢false (b.none m (byte (kind_of some.0) true) _ tt (ap (λ (w : List Field). w ++ message_fields m) (sym first.0)) taken)))
+    let some = of_kind kind is in
+    let m = made 0 0 no_carry some.0 in
+    let taken : kind_of some.0 ∷ [] ≡ take (length b.field.bytes) b.rest =
+    ap (λ (k : ℕ). k ∷ []) some.1 ∙ rw (first.1, ← rest_is) refl in
+    absurd (true≢false (b.none m (byte (kind_of some.0) true) _ tt (ap (λ (w : List Field). w ++ message_fields m) (sym first.0)) taken)))
   where
     decide : (b : Bool) → is_kind kind ≡ b → (is_kind kind ≡ true → is_kind kind ≡ false) → is_kind kind ≡ false
     decide true e f = f e
@@ -152,7 +152,7 @@ only_answer (Err errors.Memory) bytes small fits = absurd fits
 pub no_prefix : (a b : Msg) (rest : List ℕ) → IsMessage a → IsMessage b → spelling a ++ rest ≡ spelling b → (a ≡ b) × (rest ≡ [])
 no_prefix a b rest fita fitb e =
     same_read (message_at (spelling a ++ rest)) a b rest [] (message_exact.again a rest tt fita)
-      (ap message_at (e ∙ sym (append-nil (spelling b))) ∙ message_exact.again b [] tt fitb)
+    (ap message_at (e ∙ sym (append-nil (spelling b))) ∙ message_exact.again b [] tt fitb)
 
 -- fields that keep their ranges and have room are fit
 pub fit_fields : (fields : List Field) → are_held fields ≡ true → are_kept fields ≡ true → are_fit fields ≡ true

@@ -1,11 +1,9 @@
 -- Each kind of body has an exact reader.
-use Rattle.std.proofs.Common.{replicate, ◌≡◌, ◌∙◌, ℕ, ℤ, zero, suc, ◌+◌, ◌<◌, ◌≤◌, Bool, true, false, List, [], ◌∷◌, ◌++◌, length, Option, Some, None, option_map, Result, Ok, Err, refl, sym, ap, subst, arith, true≢false}
-use Rattle.std.specs.Prelude.{◌&&◌, ◌||◌, ◌==◌, not, nat_lt, nat_le}
+use Rattle.std.proofs.Common.{replicate, ◌≡◌, ◌∙◌, ℕ, zero, suc, ◌≤◌, true, List, [], ◌∷◌, ◌++◌, length, Option, None, option_map, Ok, Err, refl, sym, ap, subst, arith, true≢false}
+use Rattle.std.specs.Prelude.{nat_le}
 use Rattle.std.proofs.lemmas.List.{length-replicate}
-use Rattle.dsm_base.specs.declared.names.Lock.{Lock}
-use Rattle.dsm_base.specs.declared.names.Bar.{Bar}
 use Rattle.dsm_base.specs.declared.names.Mode.{Mode}
-use Rattle.dsm_base.specs.declared.names.Mode.TheVariants.{Shared, Excl}
+use Rattle.dsm_base.specs.declared.names.Mode.TheVariants.{Shared}
 use Rattle.dsm_base.specs.declared.lists.LockNumber.{LockNumber}
 use Rattle.dsm_base.specs.declared.lists.BarNumber.{BarNumber}
 use Rattle.dsm_lines.specs.declared.list.Line.{Line}
@@ -15,17 +13,17 @@ use Rattle.dsm_msg.specs.declared.message.Body.{Body}
 use Rattle.dsm_msg.specs.declared.message.Body.TheVariants as bodies
 use Rattle.dsm_msg.specs.declared.message.Body.TheOpen as layer
 use Rattle.dsm_msg.specs.declared.message.Body.TheViews.{out-Body, roll-Body, roll-out-Body}
-use Rattle.dsm_msg.specs.Fields.{Any, Field, number, byte, is_over, are_fit, entries, counted}
+use Rattle.dsm_msg.specs.Fields.{Any, Field, number, byte, is_over, entries, counted}
 use Rattle.dsm_msg.specs.Spelling.{Layer, line_fields, lock_number_fields, bar_number_fields, turn_body_fields, report_fields, asking_fields, layer_fields, body_fields, kind_of, kind_of_layer, mode_number, may_give, is_kind, is_asking}
-use Rattle.dsm_msg.specs.Reading.{Fault, Read, then_with, kept, number_at, byte_at, mode_at, counted_at, entries_at, line_at, lock_number_at, bar_number_at, turn_body_at, req_at, grant_body_at, given_at, release_at, arrive_at, opened_at, asking_at, resync_at, report_at, report_body_at, pruned_at, body_at}
+use Rattle.dsm_msg.specs.Reading.{Read, then_with, kept, number_at, byte_at, mode_at, counted_at, entries_at, line_at, lock_number_at, bar_number_at, turn_body_at, req_at, grant_body_at, given_at, release_at, arrive_at, opened_at, asking_at, resync_at, report_body_at, pruned_at, body_at}
 use Rattle.std.proofs.lemmas.Bool.{leb-true}
 use Rattle.std.proofs.lemmas.Bool.Decides.{nat_tests}
 use Rattle.dsm_msg.proofs.Exact.{Exact, done, both_true}
 use Rattle.dsm_msg.proofs.Chain.{At, chain}
 use Rattle.dsm_msg.proofs.Formats.{Has, reworded, of_part, listed, counted_list}
 use Rattle.dsm_msg.proofs.Layers.{out_req, out_grant, out_release, out_arrive, out_opened, out_note, out_ack, out_resync, out_report, out_pruned}
-use Rattle.dsm_msg.proofs.Numbers.{number_exact, any_number, byte_exact, any_byte, some_byte, mode_exact}
-use Rattle.dsm_msg.proofs.Grammar.{step, step_of, put, rest_of, known, no_line, line_exact, lines_exact, lock_number_exact, bar_number_exact, report_exact}
+use Rattle.dsm_msg.proofs.Numbers.{number_exact, any_number, any_byte, some_byte, mode_exact}
+use Rattle.dsm_msg.proofs.Grammar.{step, put, rest_of, known, no_line, line_exact, lines_exact, lock_number_exact, bar_number_exact, report_exact}
 
 abbrev pub IsKind : ℕ → Body → Type 0
 IsKind kind body = kind_of body ≡ kind
@@ -88,11 +86,10 @@ given_exact : (mode : Mode) → Exact Any (given_fields mode) (given_at mode)
 unfolding given_at
 given_exact mode =
     chain Any (λ n. number 4 n (may_give mode n) ∷ []) (kept (may_give mode) (number_at 4)) Any length (entries line_fields None) (λ count bytes. entries_at line_at None count bytes) (number_exact 4 (may_give mode))
-      (λ count is fit. reworded (Has count) (At Any length count) (entries line_fields None) (entries line_fields None) (entries_at line_at None count)
-        (λ a len. record { is = tt; same = len }) (λ a at. at.same) (λ a at. refl) (listed no_line line_fields line_at line_exact count None))
-      (λ count is. (replicate count no_line, record { is = tt; same = length-replicate count no_line }))
-      (λ z is. tt)
-
+    (λ count is fit. reworded (Has count) (At Any length count) (entries line_fields None) (entries line_fields None) (entries_at line_at None count)
+    (λ a len. record { is = tt; same = len }) (λ a at. at.same) (λ a at. refl) (listed no_line line_fields line_at line_exact count None))
+    (λ count is. (replicate count no_line, record { is = tt; same = length-replicate count no_line }))
+    (λ z is. tt)
 
 -- ---- kind 1
 
@@ -137,12 +134,12 @@ req_parts_exact : Exact Any req_fields req_parts_at
 req_parts_exact =
     let made : ℕ → Mode → ℕ → Reqs = (λ lock mode have. record { lock = lock; mode = mode; have = have }) in
     step (any_number 2)
-      (λ lock. step (mode_exact)
-        (λ mode. step (any_number 4)
-          (λ have. done (At (At (At Any (λ p. p.lock) lock) (λ p. p.mode) mode) (λ p. p.have) have) (made lock mode have) (put (put (put tt))) (λ p at. rw (← at.same, ← at.is.same, ← at.is.is.same) refl))
-          (λ have. (made lock mode have, put (put (put tt)))))
-        (λ mode. (made lock mode 0, put (put tt))))
-      (λ lock. (made lock Shared 0, put tt))
+    (λ lock. step (mode_exact)
+    (λ mode. step (any_number 4)
+    (λ have. done (At (At (At Any (λ p. p.lock) lock) (λ p. p.mode) mode) (λ p. p.have) have) (made lock mode have) (put (put (put tt))) (λ p at. rw (← at.same, ← at.is.same, ← at.is.is.same) refl))
+    (λ have. (made lock mode have, put (put (put tt)))))
+    (λ mode. (made lock mode 0, put (put tt))))
+    (λ lock. (made lock Shared 0, put tt))
 
 req_reads : (bytes : List ℕ) → then_with (req_parts_at bytes) (λ p rest. Ok (req_body p, rest)) ≡ req_at bytes
 unfolding req_at
@@ -155,7 +152,6 @@ req_exact = reads_so req_reads (body_of body_fields req_makes (λ b e. req_same 
 
 req_asking : Exact (IsKind 1) (λ b. asking_fields (out-Body b)) req_at
 req_asking = reads_so req_reads (body_of (λ b. asking_fields (out-Body b)) req_makes (λ b e. req_asks (out-Body b) e) req_parts_exact)
-
 
 -- ---- kind 2
 
@@ -198,14 +194,14 @@ grant_parts_exact : Exact Any grant_fields grant_parts_at
 grant_parts_exact =
     let made : ℕ → Mode → ℕ → ℕ → List Line → Granteds = (λ lock mode turn version lines. record { lock = lock; mode = mode; turn = turn; version = version; lines = lines }) in
     step (any_number 2)
-      (λ lock. step (mode_exact)
-        (λ mode. step (any_number 4)
-          (λ turn. step (any_number 4)
-            (λ version. rest_of (At (At (At (At Any (λ p. p.lock) lock) (λ p. p.mode) mode) (λ p. p.turn) turn) (λ p. p.version) version) (λ p. p.lines) (made lock mode turn version) (lines_exact) (λ a is. put (put (put (put tt)))) (λ a. refl) (λ p at. tt) (λ p at. rw (← at.same, ← at.is.same, ← at.is.is.same, ← at.is.is.is.same) refl))
-            (λ version. (made lock mode turn version [], put (put (put (put tt))))))
-          (λ turn. (made lock mode turn 0 [], put (put (put tt)))))
-        (λ mode. (made lock mode 0 0 [], put (put tt))))
-      (λ lock. (made lock Shared 0 0 [], put tt))
+    (λ lock. step (mode_exact)
+    (λ mode. step (any_number 4)
+    (λ turn. step (any_number 4)
+    (λ version. rest_of (At (At (At (At Any (λ p. p.lock) lock) (λ p. p.mode) mode) (λ p. p.turn) turn) (λ p. p.version) version) (λ p. p.lines) (made lock mode turn version) (lines_exact) (λ a is. put (put (put (put tt)))) (λ a. refl) (λ p at. tt) (λ p at. rw (← at.same, ← at.is.same, ← at.is.is.same, ← at.is.is.is.same) refl))
+    (λ version. (made lock mode turn version [], put (put (put (put tt))))))
+    (λ turn. (made lock mode turn 0 [], put (put (put tt)))))
+    (λ mode. (made lock mode 0 0 [], put (put tt))))
+    (λ lock. (made lock Shared 0 0 [], put tt))
 
 grant_reads : (bytes : List ℕ) → then_with (grant_parts_at bytes) (λ p rest. Ok (grant_body p, rest)) ≡ grant_body_at bytes
 unfolding grant_body_at
@@ -215,7 +211,6 @@ grant_reads bytes =
 
 grant_exact : Exact (IsKind 2) body_fields grant_body_at
 grant_exact = reads_so grant_reads (body_of body_fields grant_makes (λ b e. grant_same (out-Body b) e) grant_parts_exact)
-
 
 -- ---- kind 4
 
@@ -260,10 +255,10 @@ arrive_parts_exact : Exact Any arrive_fields arrive_parts_at
 arrive_parts_exact =
     let made : ℕ → ℕ → List Line → Arriveds = (λ bar epoch lines. record { bar = bar; epoch = epoch; lines = lines }) in
     step (any_byte)
-      (λ bar. step (any_number 4)
-        (λ epoch. rest_of (At (At Any (λ p. p.bar) bar) (λ p. p.epoch) epoch) (λ p. p.lines) (made bar epoch) (lines_exact) (λ a is. put (put tt)) (λ a. refl) (λ p at. tt) (λ p at. rw (← at.same, ← at.is.same) refl))
-        (λ epoch. (made bar epoch [], put (put tt))))
-      (λ bar. (made bar 0 [], put tt))
+    (λ bar. step (any_number 4)
+    (λ epoch. rest_of (At (At Any (λ p. p.bar) bar) (λ p. p.epoch) epoch) (λ p. p.lines) (made bar epoch) (lines_exact) (λ a is. put (put tt)) (λ a. refl) (λ p at. tt) (λ p at. rw (← at.same, ← at.is.same) refl))
+    (λ epoch. (made bar epoch [], put (put tt))))
+    (λ bar. (made bar 0 [], put tt))
 
 arrive_reads : (bytes : List ℕ) → then_with (arrive_parts_at bytes) (λ p rest. Ok (arrive_body p, rest)) ≡ arrive_at bytes
 unfolding arrive_at
@@ -276,7 +271,6 @@ arrive_exact = reads_so arrive_reads (body_of body_fields arrive_makes (λ b e. 
 
 arrive_asking : Exact (IsKind 4) (λ b. asking_fields (out-Body b)) arrive_at
 arrive_asking = reads_so arrive_reads (body_of (λ b. asking_fields (out-Body b)) arrive_makes (λ b e. arrive_asks (out-Body b) e) arrive_parts_exact)
-
 
 -- ---- kind 5
 
@@ -317,10 +311,10 @@ opened_parts_exact : Exact Any opened_fields opened_parts_at
 opened_parts_exact =
     let made : ℕ → ℕ → List Line → Openeds = (λ bar epoch lines. record { bar = bar; epoch = epoch; lines = lines }) in
     step (any_byte)
-      (λ bar. step (any_number 4)
-        (λ epoch. rest_of (At (At Any (λ p. p.bar) bar) (λ p. p.epoch) epoch) (λ p. p.lines) (made bar epoch) (lines_exact) (λ a is. put (put tt)) (λ a. refl) (λ p at. tt) (λ p at. rw (← at.same, ← at.is.same) refl))
-        (λ epoch. (made bar epoch [], put (put tt))))
-      (λ bar. (made bar 0 [], put tt))
+    (λ bar. step (any_number 4)
+    (λ epoch. rest_of (At (At Any (λ p. p.bar) bar) (λ p. p.epoch) epoch) (λ p. p.lines) (made bar epoch) (lines_exact) (λ a is. put (put tt)) (λ a. refl) (λ p at. tt) (λ p at. rw (← at.same, ← at.is.same) refl))
+    (λ epoch. (made bar epoch [], put (put tt))))
+    (λ bar. (made bar 0 [], put tt))
 
 opened_reads : (bytes : List ℕ) → then_with (opened_parts_at bytes) (λ p rest. Ok (opened_body p, rest)) ≡ opened_at bytes
 unfolding opened_at
@@ -330,7 +324,6 @@ opened_reads bytes =
 
 opened_exact : Exact (IsKind 5) body_fields opened_at
 opened_exact = reads_so opened_reads (body_of body_fields opened_makes (λ b e. opened_same (out-Body b) e) opened_parts_exact)
-
 
 -- ---- kind 10
 
@@ -371,10 +364,10 @@ pruned_parts_exact : Exact Any pruned_fields pruned_parts_at
 pruned_parts_exact =
     let made : ℕ → List LockNumber → List BarNumber → Pruneds = (λ turn versions crossings. record { turn = turn; versions = versions; crossings = crossings }) in
     step (any_number 4)
-      (λ turn. step (counted_list (record { lock = record { 0 = 0 }; number = 0 }) lock_number_fields lock_number_at (any_number 4) lock_number_exact)
-        (λ versions. rest_of (At (At Any (λ p. p.turn) turn) (λ p. p.versions) versions) (λ p. p.crossings) (made turn versions) (counted_list (record { bar = record { 0 = 0 }; number = 0 }) bar_number_fields bar_number_at (any_number 4) bar_number_exact) (λ a is. put (put tt)) (λ a. refl) (λ p at. tt) (λ p at. rw (← at.same, ← at.is.same) refl))
-        (λ versions. (made turn versions [], put (put tt))))
-      (λ turn. (made turn [] [], put tt))
+    (λ turn. step (counted_list (record { lock = record { 0 = 0 }; number = 0 }) lock_number_fields lock_number_at (any_number 4) lock_number_exact)
+    (λ versions. rest_of (At (At Any (λ p. p.turn) turn) (λ p. p.versions) versions) (λ p. p.crossings) (made turn versions) (counted_list (record { bar = record { 0 = 0 }; number = 0 }) bar_number_fields bar_number_at (any_number 4) bar_number_exact) (λ a is. put (put tt)) (λ a. refl) (λ p at. tt) (λ p at. rw (← at.same, ← at.is.same) refl))
+    (λ versions. (made turn versions [], put (put tt))))
+    (λ turn. (made turn [] [], put tt))
 
 pruned_reads : (bytes : List ℕ) → then_with (pruned_parts_at bytes) (λ p rest. Ok (pruned_body p, rest)) ≡ pruned_at bytes
 unfolding pruned_at
@@ -384,7 +377,6 @@ pruned_reads bytes =
 
 pruned_exact : Exact (IsKind 10) body_fields pruned_at
 pruned_exact = reads_so pruned_reads (body_of body_fields pruned_makes (λ b e. pruned_same (out-Body b) e) pruned_parts_exact)
-
 
 -- ---- kind 3
 
@@ -430,13 +422,13 @@ release_parts_exact : Exact Any release_fields release_parts_at
 release_parts_exact =
     let made : ℕ → Mode → ℕ → List Line → Releaseds = (λ lock mode version lines. record { lock = lock; mode = mode; version = version; lines = lines }) in
     step (any_number 2)
-      (λ lock. step (mode_exact)
-        (λ mode. step (any_number 4)
-          (λ version. known (λ p. given_fields p.mode p.lines) (λ p at. ap (λ (m : Mode). given_fields m p.lines) at.is.same)
-            (rest_of (At (At (At Any (λ p. p.lock) lock) (λ p. p.mode) mode) (λ p. p.version) version) (λ p. p.lines) (made lock mode version) (given_exact mode) (λ a is. put (put (put tt))) (λ a. refl) (λ p at. tt) (λ p at. rw (← at.same, ← at.is.same, ← at.is.is.same) refl)))
-          (λ version. (made lock mode version [], put (put (put tt)))))
-        (λ mode. (made lock mode 0 [], put (put tt))))
-      (λ lock. (made lock Shared 0 [], put tt))
+    (λ lock. step (mode_exact)
+    (λ mode. step (any_number 4)
+    (λ version. known (λ p. given_fields p.mode p.lines) (λ p at. ap (λ (m : Mode). given_fields m p.lines) at.is.same)
+    (rest_of (At (At (At Any (λ p. p.lock) lock) (λ p. p.mode) mode) (λ p. p.version) version) (λ p. p.lines) (made lock mode version) (given_exact mode) (λ a is. put (put (put tt))) (λ a. refl) (λ p at. tt) (λ p at. rw (← at.same, ← at.is.same, ← at.is.is.same) refl)))
+    (λ version. (made lock mode version [], put (put (put tt)))))
+    (λ mode. (made lock mode 0 [], put (put tt))))
+    (λ lock. (made lock Shared 0 [], put tt))
 
 release_reads : (bytes : List ℕ) → then_with (release_parts_at bytes) (λ p rest. Ok (release_body p, rest)) ≡ release_at bytes
 unfolding release_at
@@ -564,16 +556,16 @@ turn_body_exact : (last : Option TurnBody) → Exact Any (turn_body_fields last)
 unfolding turn_body_at
 turn_body_exact last =
     step (number_exact 4 (is_over (option_map (λ b. b.turn) last)))
-      (λ turn. chain (λ kind. is_kind kind ≡ true) (λ kind. byte kind (is_asking kind) ∷ []) (kept is_asking byte_at) (At Any (λ b. b.turn) turn) (λ b. kind_of b.body) (λ b. asking_fields (out-Body b.body))
-        (λ kind bytes. then_with (asking_at kind bytes) (λ body rest. Ok (turn_made turn body, rest)))
-        (some_byte is_asking is_asking (λ kind. is_kind kind ≡ true) 1 refl (λ n is e. e) asks (λ n e. e))
-        (λ kind is fit. let range = in_range kind is in
-          rest_of (At (At Any (λ b. b.turn) turn) (λ b. kind_of b.body) kind) (λ b. b.body) (turn_made turn)
-            (asking_exact_of kind (both_true (is_asking kind) true fit).0 range.0 range.1)
-            (λ body e. record { is = put tt; same = e }) (λ body. refl) (λ b at. at.same) (λ b at. rw (← at.is.same) refl))
-        (λ kind is. let some = of_kind kind is in (turn_made turn some.0, record { is = put tt; same = some.1 }))
-        (λ b at. kinds (out-Body b.body)))
-      (λ turn. (turn_made turn bodies.Note, put tt))
+    (λ turn. chain (λ kind. is_kind kind ≡ true) (λ kind. byte kind (is_asking kind) ∷ []) (kept is_asking byte_at) (At Any (λ b. b.turn) turn) (λ b. kind_of b.body) (λ b. asking_fields (out-Body b.body))
+    (λ kind bytes. then_with (asking_at kind bytes) (λ body rest. Ok (turn_made turn body, rest)))
+    (some_byte is_asking is_asking (λ kind. is_kind kind ≡ true) 1 refl (λ n is e. e) asks (λ n e. e))
+    (λ kind is fit. let range = in_range kind is in
+    rest_of (At (At Any (λ b. b.turn) turn) (λ b. kind_of b.body) kind) (λ b. b.body) (turn_made turn)
+    (asking_exact_of kind (both_true (is_asking kind) true fit).0 range.0 range.1)
+    (λ body e. record { is = put tt; same = e }) (λ body. refl) (λ b at. at.same) (λ b at. rw (← at.is.same) refl))
+    (λ kind is. let some = of_kind kind is in (turn_made turn some.0, record { is = put tt; same = some.1 }))
+    (λ b at. kinds (out-Body b.body)))
+    (λ turn. (turn_made turn bodies.Note, put tt))
 
 abbrev resync_part : Layer → List TurnBody
 resync_part (layer.Resync list) = list

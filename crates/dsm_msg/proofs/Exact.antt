@@ -1,12 +1,10 @@
 -- A reader is exact: what it reads is spelled so, what is spelled so is read, and each fault is the first one.
-use Rattle.std.proofs.Common.{◌≡◌, ◌∙◌, ℕ, zero, suc, ◌+◌, ◌<◌, ◌≤◌, Bool, true, false, List, [], ◌∷◌, ◌++◌, length, take, drop, Result, Ok, Err, refl, sym, ap, subst, append_assoc, arith, inl, inr, true≢false}
-use Rattle.std.specs.Prelude.{◌⊎◌, ◌&&◌, slice_index}
-use Rattle.std.proofs.lemmas.List.{append-nil, length-append, take_at, drop_at}
+use Rattle.std.proofs.Common.{◌≡◌, ◌∙◌, ℕ, suc, Bool, true, false, List, [], ◌∷◌, ◌++◌, Ok, Err, refl, sym, ap, subst, true≢false}
+use Rattle.std.specs.Prelude.{◌&&◌}
 use Rattle.std.proofs.lemmas.List.Folds.{list_all-append}
 use Rattle.dsm_base.specs.BigEndian.{IsBytes}
-use Rattle.dsm_msg.specs.Fields.{Field, is_fit, are_fit, bytes_of, Reaches, NoneGoesOn, IsCut, Breaks}
-use Rattle.dsm_msg.specs.Reading.{Fault, Cut, Broken, Read, then_with}
-use Rattle.dsm_msg.proofs.Loops.{bytes_append}
+use Rattle.dsm_msg.specs.Fields.{Field, is_fit, are_fit, bytes_of, IsCut, Breaks}
+use Rattle.dsm_msg.specs.Reading.{Cut, Broken, Read}
 
 -- what was read is spelled so, and bytes are left
 pub record Took {A : Type 0} (Is : A → Type 0) (fields : A → List Field) (bytes : List ℕ) (value : A) (rest : List ℕ) : Type 0 where
@@ -82,8 +80,8 @@ nothing_before (one ∷ front) field back e = absurd cc
 pub done : {A : Type 0} (Is : A → Type 0) (value : A) → Is value → ((other : A) → Is other → other ≡ value) → Exact Is (λ _. []) (λ bytes. Ok (value, bytes))
 done {A} Is value is one = record {
   took = λ bytes other rest small e.
-    let both = same_read (Ok (value, bytes)) value other bytes rest refl e in
-    record { is = subst Is both.0 is; fit = refl; parts = both.1; small = subst IsBytes both.1 small };
+      let both = same_read (Ok (value, bytes)) value other bytes rest refl e in
+      record { is = subst Is both.0 is; fit = refl; parts = both.1; small = subst IsBytes both.1 small };
   again = λ other rest is fit. let same = one other is in ap (λ (v : A). let read : Read A = Ok (v, rest) in read) (sym same);
   apart = λ a b more others isa isb fit e. one a isa ∙ sym (one b isb);
   cut = λ bytes small e. absurd cc;

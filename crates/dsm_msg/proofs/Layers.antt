@@ -6,10 +6,8 @@ use Rattle.dsm_base.specs.declared.names.Mode.{Mode}
 use Rattle.dsm_base.specs.declared.lists.LockNumber.{LockNumber}
 use Rattle.dsm_base.specs.declared.lists.BarNumber.{BarNumber}
 use Rattle.dsm_lines.specs.declared.list.Line.{Line}
-
 use Rattle.dsm_msg.specs.declared.message.Report.{Report}
 use Rattle.dsm_msg.specs.declared.message.TurnBody.{TurnBody}
-use Rattle.dsm_msg.specs.declared.message.Body.{Body}
 use Rattle.dsm_msg.specs.declared.message.Body.TheVariants as bodies
 use Rattle.dsm_msg.specs.declared.message.Body.TheOpen as layer
 use Rattle.dsm_msg.specs.declared.message.Body.TheViews.{out-Body, roll-Body, out-roll-Body}

@@ -1,13 +1,12 @@
 -- A loop over entries: what was read so far stands in front of what reading the rest gives.
-use Rattle.std.proofs.Common.{◌≡◌, ◌∙◌, ℕ, zero, suc, ◌+◌, ◌-◌, ◌<◌, ◌≤◌, Bool, true, List, [], ◌∷◌, ◌++◌, length, Option, Some, None, Result, Ok, Err, refl, sym, ap, subst, append_assoc, arith}
+use Rattle.std.proofs.Common.{◌≡◌, ◌∙◌, ℕ, suc, ◌+◌, ◌-◌, ◌<◌, ◌≤◌, List, [], ◌∷◌, ◌++◌, length, Option, Some, Ok, Err, refl, sym, ap, append_assoc, arith}
 use Rattle.std.specs.Prelude.{slice_get}
-use Rattle.std.specs.List.{flat_map, list_all}
 use Rattle.std.proofs.lemmas.List.{append-nil, length-append}
 use Rattle.std.proofs.lemmas.List.Folds.{list_all-append}
 use Rattle.dsm_msg.specs.declared.field.FieldErr.{FieldErr}
 use Rattle.dsm_msg.specs.declared.field.FieldErr.TheVariants as errors
-use Rattle.dsm_msg.specs.Fields.{Field, bytes_of, are_held, entries, Appends}
-use Rattle.dsm_msg.specs.Reading.{Fault, Cut, Broken, Read, then_with, Fails, entries_at}
+use Rattle.dsm_msg.specs.Fields.{Field, bytes_of, entries, Appends}
+use Rattle.dsm_msg.specs.Reading.{Cut, Broken, Read, then_with, Fails, entries_at}
 
 -- the last of a list
 abbrev pub last_of : {A : Type 0} → List A → Option A
@@ -41,7 +40,7 @@ unfolding entries_at
 goes_on item_at front count i bytes after item total lt read so_far =
     let k : count - i ≡ suc (count - (i + 1)) = omega arith in
     let one : with_front front (entries_at item_at (last_of front) (count - i) bytes) ≡ with_front (front ++ item ∷ []) (entries_at item_at (Some item) (count - (i + 1)) after) =
-        rw (k, read) (regroup front item (entries_at item_at (Some item) (count - (i + 1)) after)) in
+    rw (k, read) (regroup front item (entries_at item_at (Some item) (count - (i + 1)) after)) in
     rw (last_pushed front item) (sym one ∙ so_far)
 
 pub fails : {A : Type 0} (e : FieldErr) (item_at : Option A → List ℕ → Read A) (front : List A) (count i : ℕ) (bytes : List ℕ) (total : Read (List A))

@@ -1,10 +1,9 @@
 -- The fields of messages: each reader of one is exact.
 use mir.Val.{sel}
-use Rattle.std.proofs.Common.{replicate, ◌≡◌, ◌∙◌, ◌-◌, ℕ, ℤ, pos, negsuc, zero, suc, ◌+◌, ◌<◌, ◌≤◌, ◌^◌, Bool, true, false, List, [], ◌∷◌, ◌++◌, length, take, drop, Option, Some, None, Result, Ok, Err, refl, sym, ap, subst, arith, inl, inr, true≢false}
-use Rattle.std.specs.Prelude.{◌&&◌, nat_lt, nat_le, slice_index}
+use Rattle.std.proofs.Common.{replicate, ◌≡◌, ◌∙◌, ◌-◌, ℕ, ℤ, pos, negsuc, zero, suc, ◌<◌, ◌^◌, Bool, true, false, List, [], ◌∷◌, ◌++◌, length, Ok, Err, refl, sym, ap, subst, arith, true≢false}
+use Rattle.std.specs.Prelude.{◌&&◌, nat_lt}
 use Rattle.std.specs.List.{list_all}
-use Rattle.std.specs.Int.{w64, cast_signed, cast_unsigned, bytes_high_first}
-use Rattle.std.specs.Ordering.{int_eq}
+use Rattle.std.specs.Int.{w64, cast_signed, cast_unsigned}
 use Rattle.std.proofs.lemmas.Bool.{lt-ltb, le-ltb, ltb-true}
 use Rattle.std.proofs.lemmas.Bool.Decides.{Decides-int_eq}
 use Rattle.std.proofs.lemmas.Int.{of_z-to_z}
@@ -15,9 +14,9 @@ use Rattle.dsm_base.specs.BigEndian.{IsBytes, signed_bytes}
 use Rattle.dsm_base.proofs.BigEndian.{read_number, same_number}
 use Rattle.dsm_base.specs.declared.names.Mode.{Mode}
 use Rattle.dsm_base.specs.declared.names.Mode.TheVariants.{Shared, Excl}
-use Rattle.dsm_msg.specs.Fields.{Any, Field, byte, number, signed, is_fit}
+use Rattle.dsm_msg.specs.Fields.{Any, Field, byte, number, signed}
 use Rattle.dsm_msg.specs.Spelling.{mode_number, bool_number, is_printable, text}
-use Rattle.dsm_msg.specs.Reading.{Fault, Cut, Broken, Read, then_with, kept, byte_at, number_at, signed_at, mode_at, bool_at, text_at}
+use Rattle.dsm_msg.specs.Reading.{Cut, Read, then_with, kept, byte_at, number_at, signed_at, mode_at, bool_at, text_at}
 use Rattle.dsm_msg.proofs.Exact.{Exact, both_true}
 use Rattle.dsm_msg.proofs.Atoms.{Whole, fits, none, IsAtom, atom}
 use Rattle.dsm_msg.proofs.Formats.{Has}
@@ -53,20 +52,20 @@ number_atom width ok = record {
   wide = λ n is. length-bytes_high_first width n;
   short = λ bytes lt. rw (short_number width bytes lt) refl;
   again = λ n rest is fit.
-    let both = both_true (nat_lt n (256 ^ width)) (ok n) fit in
-    let read = reads_number width (big_bytes width n) rest (length-bytes_high_first width n) in
-    let value = back width n (ltb-true _ _ both.0) in
-    rw (read, value, both.1) refl;
+      let both = both_true (nat_lt n (256 ^ width)) (ok n) fit in
+      let read = reads_number width (big_bytes width n) rest (length-bytes_high_first width n) in
+      let value = back width n (ltb-true _ _ both.0) in
+      rw (read, value, both.1) refl;
   whole = λ x rest len small.
-    let n = big_number width x in
-    let same = read_number width x len small in
-    let lt : n < 256 ^ width = big_from-lt 0 width x small in
-    let read = reads_number width x rest len in
-    bool_cases (ok n) (Whole Any (λ m. number width m (ok m)) (kept ok (number_at width)) x rest)
+      let n = big_number width x in
+      let same = read_number width x len small in
+      let lt : n < 256 ^ width = big_from-lt 0 width x small in
+      let read = reads_number width x rest len in
+      bool_cases (ok n) (Whole Any (λ m. number width m (ok m)) (kept ok (number_at width)) x rest)
       (λ passed. fits n tt same (rw (lt-ltb _ _ lt, passed) refl))
       (λ failed. none
-        (λ m is bytes. no_and (nat_lt m (256 ^ width)) (ok m) (λ wide. let one : m ≡ n = same_number width m n (ltb-true _ _ wide) lt (bytes ∙ sym same) in ap ok one ∙ failed))
-        (rw (read, failed) refl));
+      (λ m is bytes. no_and (nat_lt m (256 ^ width)) (ok m) (λ wide. let one : m ≡ n = same_number width m n (ltb-true _ _ wide) lt (bytes ∙ sym same) in ap ok one ∙ failed))
+      (rw (read, failed) refl));
 }
 
 unkept : {A : Type 0} (read : List ℕ → Read A) (bytes : List ℕ) → kept (λ _. true) read bytes ≡ read bytes
@@ -111,14 +110,14 @@ byte_atom Is keeps ok value is to from kept_so = record {
   short = λ bytes lt. rw (byte_short bytes lt) refl;
   again = λ n rest is fit. rw (byte_reads n rest, to n is fit) refl;
   whole = λ x rest len small.
-    let one = one_byte x len in
-    let b = one.0 in
-    subst (λ (w : List ℕ). Whole Is (λ n. byte n (keeps n)) (kept ok byte_at) w rest) (sym one.1)
+      let one = one_byte x len in
+      let b = one.0 in
+      subst (λ (w : List ℕ). Whole Is (λ n. byte n (keeps n)) (kept ok byte_at) w rest) (sym one.1)
       (bool_cases (ok b) (Whole Is (λ n. byte n (keeps n)) (kept ok byte_at) (b ∷ []) rest)
-        (λ passed. fits b (from b passed) refl (kept_so b passed))
-        (λ failed. none
-          (λ m is bytes. let same : m ≡ b = cc in bool_cases (keeps m) (keeps m ≡ false) (λ fit. absurd (true≢false (sym (to m is fit) ∙ ap ok same ∙ failed))) (λ unfit. unfit))
-          (rw (byte_reads b rest, failed) refl)));
+      (λ passed. fits b (from b passed) refl (kept_so b passed))
+      (λ failed. none
+      (λ m is bytes. let same : m ≡ b = cc in bool_cases (keeps m) (keeps m ≡ false) (λ fit. absurd (true≢false (sym (to m is fit) ∙ ap ok same ∙ failed))) (λ unfit. unfit))
+      (rw (byte_reads b rest, failed) refl)));
 }
 
 pub byte_exact : (ok : ℕ → Bool) → Exact Any (λ n. byte n (ok n) ∷ []) (kept ok byte_at)
@@ -232,7 +231,7 @@ text_atom count = record {
   short = λ bytes lt. rw (short_text count bytes lt) refl;
   again = λ bytes rest len fit. rw (reads_text count bytes rest len, fit) refl;
   whole = λ x rest len small.
-    bool_cases (list_all is_printable x) (Whole (Has count) text (kept (λ bytes. list_all is_printable bytes) (text_at count)) x rest)
+      bool_cases (list_all is_printable x) (Whole (Has count) text (kept (λ bytes. list_all is_printable bytes) (text_at count)) x rest)
       (λ passed. fits x len refl passed)
       (λ failed. none (λ m is bytes. ap (list_all is_printable) bytes ∙ failed) (rw (reads_text count x rest len, failed) refl));
 }
@@ -259,14 +258,14 @@ signed_atom = record {
   wide = λ v is. length-bytes_high_first 8 (cast_unsigned w64 v);
   short = short_signed;
   again = λ v rest is fit.
-    let same = (Decides-int_eq (cast_signed w64 (cast_unsigned w64 v)) v).0 (both_true _ true fit).0 in
-    let number = back 8 (cast_unsigned w64 v) (small_value v same) in
-    reads_signed (signed_bytes v) rest (length-bytes_high_first 8 (cast_unsigned w64 v)) ∙ ap (λ (n : ℕ). let read : Read ℤ = Ok (cast_signed w64 n, rest) in read) number ∙ ap (λ (z : ℤ). let read : Read ℤ = Ok (z, rest) in read) same;
+      let same = (Decides-int_eq (cast_signed w64 (cast_unsigned w64 v)) v).0 (both_true _ true fit).0 in
+      let number = back 8 (cast_unsigned w64 v) (small_value v same) in
+      reads_signed (signed_bytes v) rest (length-bytes_high_first 8 (cast_unsigned w64 v)) ∙ ap (λ (n : ℕ). let read : Read ℤ = Ok (cast_signed w64 n, rest) in read) number ∙ ap (λ (z : ℤ). let read : Read ℤ = Ok (z, rest) in read) same;
   whole = λ x rest len small.
-    let n = big_number 8 x in
-    let lt : n < 256 ^ 8 = big_from-lt 0 8 x small in
-    let same : cast_unsigned w64 (cast_signed w64 n) ≡ n = of_z-to_z w64 n lt in
-    fits (cast_signed w64 n) tt
+      let n = big_number 8 x in
+      let lt : n < 256 ^ 8 = big_from-lt 0 8 x small in
+      let same : cast_unsigned w64 (cast_signed w64 n) ≡ n = of_z-to_z w64 n lt in
+      fits (cast_signed w64 n) tt
       (ap (big_bytes 8) same ∙ read_number 8 x len small)
       (ap (λ (b : Bool). b && true) ((Decides-int_eq (cast_signed w64 (cast_unsigned w64 (cast_signed w64 n))) (cast_signed w64 n)).1 (ap (cast_signed w64) same)));
 }

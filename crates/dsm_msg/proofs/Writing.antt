@@ -1,7 +1,6 @@
 -- What was written, field by field.
-use Rattle.std.proofs.Common.{◌≡◌, ◌∙◌, ℕ, true, List, [], ◌∷◌, ◌++◌, Option, refl, sym, ap, subst, append_assoc}
-use Rattle.std.specs.Prelude.{◌&&◌}
-use Rattle.dsm_msg.specs.Fields.{Field, bytes_of, are_held, counted, Appends}
+use Rattle.std.proofs.Common.{◌≡◌, ◌∙◌, ℕ, true, List, ◌∷◌, ◌++◌, Option, ap, subst, append_assoc}
+use Rattle.dsm_msg.specs.Fields.{Field, bytes_of, counted, Appends}
 use Rattle.dsm_msg.proofs.Loops.{appends_then}
 
 -- one field, and then others

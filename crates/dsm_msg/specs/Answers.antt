@@ -1,11 +1,11 @@
 -- What bytes are answered with.
-use Rattle.std.specs.Prelude.{◌≡◌, ℕ, ◌+◌, ◌-◌, ◌<◌, Bool, false, ◌==◌, if◌then◌else◌, List, [], ◌∷◌, ◌++◌, length, slice_get, slice_index, Some, Result, Ok, Err}
+use Rattle.std.specs.Prelude.{◌≡◌, ℕ, ◌+◌, ◌-◌, ◌<◌, false, ◌==◌, if◌then◌else◌, List, [], ◌∷◌, ◌++◌, length, Result, Ok, Err}
 use Rattle.dsm_msg.specs.declared.message.Msg.{Msg}
 use Rattle.dsm_msg.specs.declared.error.MsgErr.{MsgErr}
 use Rattle.dsm_msg.specs.declared.error.MsgErr.TheVariants as errors
 use Rattle.dsm_msg.specs.Fields.{Any, IsCut, Breaks}
 use Rattle.dsm_msg.specs.Spelling.{is_kind, message_fields, spelling, IsMessage}
-use Rattle.dsm_msg.specs.Reading.{Fault, Cut, Broken, Read}
+use Rattle.dsm_msg.specs.Reading.{Cut, Broken, Read}
 
 -- the refusal of a field that begins where so many bytes are left
 abbrev pub fault_of : List ℕ → ℕ → MsgErr

@@ -10,8 +10,8 @@ ghost use Rattle.dsm_msg.specs.Answers.{OrMemory, IsAnswer, NoPrefix, answer_of,
 
 use crate::body::{body, kind_of, put_body};
 use crate::entry::{counted, put_counted};
-use crate::field::{FieldErr, byte, keeps, number, put_byte, put_number};
 use crate::error::MsgErr;
+use crate::field::{FieldErr, byte, keeps, number, put_byte, put_number};
 use crate::message::{Carry, Msg};
 use dsm_base::{MemFault, Proc};
 use sqlite_items::Items;
@@ -140,5 +140,4 @@ pub fn read_msg(alloc: Global, bytes: &[u8]) -> Result<Msg, MsgErr>
 /// No spelling of a message begins another's.
 pub fn no_spelling_begins_another()
     ensures { NoPrefix }
-{
-}
+{}

@@ -36,7 +36,11 @@ pub(crate) trait Entry: Sized + Drop {
 }
 
 /// So many entries, and the bytes behind them.
-pub(crate) fn entries<T: Entry>(alloc: Global, count: u32, bytes: &[u8]) -> Result<(Vec<T>, &[u8]), FieldErr>
+pub(crate) fn entries<T: Entry>(
+    alloc: Global,
+    count: u32,
+    bytes: &[u8],
+) -> Result<(Vec<T>, &[u8]), FieldErr>
     ensures { Gives (λ x. (x.0.items, x.1.now)) result (entries_at T.entry_at None count bytes.now) }
 {
     let mut items = Vec::new(alloc);

@@ -52,7 +52,11 @@ pub struct Report {
 #[cycle(body)]
 pub enum Body {
     /// To a lock's home: the sender asks for the lock, of which its copy holds this version.
-    Req { lock: Lock, mode: Mode, have: u32 },
+    Req {
+        lock: Lock,
+        mode: Mode,
+        have: u32,
+    },
     /// From a lock's home: the receiver may take the lock in this turn, at this version, with the lines
     /// that are newer than its own.
     Grant {
@@ -86,7 +90,9 @@ pub enum Body {
     Note,
     Ack,
     /// From a processor that was restarted: what it had sent to the receiver.
-    Resync { bodies: Bodies },
+    Resync {
+        bodies: Bodies,
+    },
     /// The answer to a `Resync`.
     Report(Report),
     /// The sender has marked an image of this turn: what came before it is not needed again.

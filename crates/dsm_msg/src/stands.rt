@@ -25,7 +25,10 @@ impl Entry for LockStand {
         bytes: &'a [u8],
     ) -> Result<(LockStand, &'a [u8]), FieldErr> {
         let (lock, rest) = short_number(bytes)?;
-        keeps(is_over(last.map(|last| last.lock.0 as u32), lock as u32), bytes)?;
+        keeps(
+            is_over(last.map(|last| last.lock.0 as u32), lock as u32),
+            bytes,
+        )?;
         let (mode, rest) = mode(rest)?;
         let (granted, rest) = flag(rest)?;
         let (turn, after) = number(rest)?;
@@ -65,7 +68,10 @@ impl Entry for BarStand {
         bytes: &'a [u8],
     ) -> Result<(BarStand, &'a [u8]), FieldErr> {
         let (bar, rest) = byte(bytes)?;
-        keeps(is_over(last.map(|last| last.bar.0 as u32), bar as u32), bytes)?;
+        keeps(
+            is_over(last.map(|last| last.bar.0 as u32), bar as u32),
+            bytes,
+        )?;
         let (arrivals, rest) = number(rest)?;
         let (openings, rest) = number(rest)?;
         let stand = BarStand {
@@ -98,7 +104,10 @@ impl Entry for LockNumber {
         bytes: &'a [u8],
     ) -> Result<(LockNumber, &'a [u8]), FieldErr> {
         let (lock, rest) = short_number(bytes)?;
-        keeps(is_over(last.map(|last| last.lock.0 as u32), lock as u32), bytes)?;
+        keeps(
+            is_over(last.map(|last| last.lock.0 as u32), lock as u32),
+            bytes,
+        )?;
         let (number, rest) = number(rest)?;
         let lock = Lock(lock);
         Ok((LockNumber { lock, number }, rest))
@@ -125,7 +134,10 @@ impl Entry for BarNumber {
         bytes: &'a [u8],
     ) -> Result<(BarNumber, &'a [u8]), FieldErr> {
         let (bar, rest) = byte(bytes)?;
-        keeps(is_over(last.map(|last| last.bar.0 as u32), bar as u32), bytes)?;
+        keeps(
+            is_over(last.map(|last| last.bar.0 as u32), bar as u32),
+            bytes,
+        )?;
         let (number, rest) = number(rest)?;
         let bar = Bar(bar);
         Ok((BarNumber { bar, number }, rest))

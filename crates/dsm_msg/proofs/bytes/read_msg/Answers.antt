@@ -1,4 +1,4 @@
-use Rattle.std.proofs.Common.{◌≡◌, ◌∙◌, sym, subst, arith}
+use Rattle.std.proofs.Common.{◌∙◌, sym, subst, arith}
 use Rattle.dsm_base.specs.BigEndian.{IsBytes}
 use Rattle.dsm_msg.specs.Answers.{IsAnswer}
 use Rattle.dsm_msg.proofs.Answering.{answer_fits, only_answer, or_weaker}

@@ -1,4 +1,4 @@
-use Rattle.std.proofs.Common.{◌≡◌, ◌-◌, ◌≤◌, None, length}
+use Rattle.std.proofs.Common.{◌≡◌, ◌-◌, None, length}
 use Rattle.dsm_msg.specs.Reading.{entries_at, value_at}
 use Rattle.dsm_msg.proofs.Loops.{last_of, with_front}
 use Rattle.dsm_msg.proofs.lines.values.Given as goal
