@@ -19,7 +19,7 @@ use crate::resolved::{Array, Expression, ForStart, LockPlace, Part, Statement, V
 use crate::scope::Scope;
 use dsm_base::{Bar, Lock, Mode, Text};
 use dsm_syntax as tree;
-use dsm_syntax::{Expr, Name, Place, ProgErr, Returns, Stmt, Which};
+use dsm_syntax::{Name, Place, ProgErr, Returns, Which};
 use std::alloc::Global;
 
 /// A lock without an index.
@@ -181,7 +181,7 @@ impl<'a> Scope<'a> {
         &self,
         around: Around<'a>,
         line: u32,
-        value: &Option<Expr>,
+        value: &Option<tree::Expression>,
     ) -> Result<Option<Expression>, ProgErr>
         ensures { Gives (tree.option_view view) result (resolve_return (around_of around.entry)
             (scope_of self.now).names line (tree.option_view tree.view value.now)) }
@@ -198,7 +198,7 @@ impl<'a> Scope<'a> {
         &mut self,
         around: Around<'a>,
         looped: bool,
-        s: &'a Stmt,
+        s: &'a tree::Statement,
     ) -> Result<Box<Statement>, ProgErr>
         requires { 1 ≤ blocks_in self.old.locals }
         ensures value { Gives (λ made. (view_statement made.value, scope_of self.new)) result
@@ -219,9 +219,9 @@ impl<'a> Scope<'a> {
         &mut self,
         around: Around<'a>,
         start: &'a tree::ForStart,
-        test: &'a Option<Expr>,
-        step: &'a Option<Expr>,
-        body: &'a Stmt,
+        test: &'a Option<tree::Expression>,
+        step: &'a Option<tree::Expression>,
+        body: &'a tree::Statement,
     ) -> Result<Statement, ProgErr>
         requires { 1 ≤ blocks_in self.old.locals }
         ensures value { Gives (λ made. (view_statement made, scope_of self.new)) result
@@ -245,7 +245,7 @@ impl<'a> Scope<'a> {
         &mut self,
         around: Around<'a>,
         looped: bool,
-        statements: &'a [Stmt],
+        statements: &'a [tree::Statement],
     ) -> Result<Vec<Statement>, ProgErr>
         requires { 1 ≤ blocks_in self.old.locals }
         ensures value { Gives (λ made. (view_statements made.items, scope_of self.new)) result
@@ -266,7 +266,7 @@ impl<'a> Scope<'a> {
         &mut self,
         around: Around<'a>,
         looped: bool,
-        statements: &'a [Stmt],
+        statements: &'a [tree::Statement],
     ) -> Result<Statement, ProgErr>
         requires { 1 ≤ blocks_in self.old.locals }
         ensures value { Gives (λ made. (view_statement made, scope_of self.new)) result
@@ -286,7 +286,7 @@ impl<'a> Scope<'a> {
         &mut self,
         around: Around<'a>,
         looped: bool,
-        s: &'a Stmt,
+        s: &'a tree::Statement,
     ) -> Result<Statement, ProgErr>
         requires { 1 ≤ blocks_in self.old.locals }
         ensures value { Gives (λ made. (view_statement made, scope_of self.new)) result
@@ -295,38 +295,48 @@ impl<'a> Scope<'a> {
         ensures blocks { OnOk result (blocks_in self.new.locals ≡ blocks_in self.old.locals) }
     {
         match s {
-            Stmt::Block(statements) => self.block(around, looped, statements),
-            Stmt::Empty => Ok(Statement::Empty),
-            Stmt::Variables(variables) => Ok(Statement::Variables(self.variables(variables)?)),
-            Stmt::Expression(e) => Ok(Statement::Expression(self.effect(e)?)),
-            Stmt::If(test, body) => {
+            tree::Statement::Block(statements) => self.block(around, looped, statements),
+            tree::Statement::Empty => Ok(Statement::Empty),
+            tree::Statement::Variables(variables) => Ok(Statement::Variables(self.variables(
+                variables,
+            )?)),
+            tree::Statement::Expression(e) => Ok(Statement::Expression(self.effect(e)?)),
+            tree::Statement::If(test, body) => {
                 let test = self.expression(test)?;
                 Ok(Statement::If(test, self.inner(around, looped, body)?))
             }
-            Stmt::IfElse(test, body, other) => {
+            tree::Statement::IfElse(test, body, other) => {
                 let test = self.expression(test)?;
                 let body = self.inner(around, looped, body)?;
                 let other = self.inner(around, looped, other)?;
                 Ok(Statement::IfElse(test, body, other))
             }
-            Stmt::While(test, body) => {
+            tree::Statement::While(test, body) => {
                 let test = self.expression(test)?;
                 Ok(Statement::While(test, self.inner(around, true, body)?))
             }
-            Stmt::For(start, test, step, body) => self.for_loop(around, start, test, step, body),
-            Stmt::Break { line } => in_loop(looped, *line, Statement::Break),
-            Stmt::Continue { line } => in_loop(looped, *line, Statement::Continue),
-            Stmt::Return { line, value } => {
+            tree::Statement::For(start, test, step, body) => self.for_loop(
+                around, start, test, step, body,
+            ),
+            tree::Statement::Break { line } => in_loop(looped, *line, Statement::Break),
+            tree::Statement::Continue { line } => in_loop(looped, *line, Statement::Continue),
+            tree::Statement::Return { line, value } => {
                 Ok(Statement::Return(self.returned(around, *line, value)?))
             }
-            Stmt::Acquire(place) => Ok(Statement::Acquire(self.lock(place)?, Mode::Excl)),
-            Stmt::AcquireShared(place) => Ok(Statement::Acquire(self.lock(place)?, Mode::Shared)),
-            Stmt::Release(place) => Ok(Statement::Release(self.lock(place)?)),
-            Stmt::Barrier(name) => {
+            tree::Statement::Acquire(place) => Ok(Statement::Acquire(
+                self.lock(place)?,
+                Mode::Excl,
+            )),
+            tree::Statement::AcquireShared(place) => Ok(Statement::Acquire(
+                self.lock(place)?,
+                Mode::Shared,
+            )),
+            tree::Statement::Release(place) => Ok(Statement::Release(self.lock(place)?)),
+            tree::Statement::Barrier(name) => {
                 let number = as_barrier(self.alloc, name, self.used(name)?)?;
                 Ok(Statement::Barrier(Bar(number)))
             }
-            Stmt::Print(parts) => Ok(Statement::Print(self.print(parts)?)),
+            tree::Statement::Print(parts) => Ok(Statement::Print(self.print(parts)?)),
         }
     }
 }

@@ -1,19 +1,15 @@
 -- Turns that touch nothing in common may be made in either order.
-use Rattle.std.specs.Prelude.{◌≡◌, ◌≢◌, ℕ, ℤ, false, List, Option, Some}
-use Rattle.std.proofs.Common.{arith, refl, sym}
-use Rattle.dsm_base.specs.declared.names.Lock.{Lock}
-use Rattle.dsm_base.specs.declared.names.Bar.{Bar}
-use Rattle.dsm_base.specs.declared.names.Cell.{Cell}
+use Rattle.std.specs.Prelude.{◌≡◌, ◌≢◌, ℕ, ℤ, false, Option, Some}
+use Rattle.std.proofs.Common.{arith, refl, sym, ◌∙◌}
 use Rattle.dsm_base.specs.declared.names.Mode.{Mode}
 use Rattle.dsm_base.specs.declared.label.Label.{Label}
-use Rattle.dsm_base.specs.declared.label.Want.{Want}
 use Rattle.dsm_base.specs.declared.setup.Setup.{Setup}
 use Rattle.dsm_base.specs.Family.{update}
 use Rattle.dsm_base.specs.Threads.{Semantics}
-use Rattle.dsm_base.specs.Plain.{PlainState, plain_after, plain_turn, plain_turn_of, memory_after, held_after, versions_after, arrived_after, can_take, can_cross}
+use Rattle.dsm_base.specs.Plain.{PlainState, plain_after, plain_turn, memory_after, held_after, versions_after, arrived_after}
 use Rattle.dsm_base.proofs.Families.{all_same}
 use Rattle.dsm_laws_runs.proofs.OwnPart.{other_thread, other_held, other_crossed}
-use Rattle.dsm_laws_runs.proofs.Swap.{same_state}
+use Rattle.dsm_laws_runs.proofs.Swap.{SameFor, same_turn, same_state}
 use Rattle.dsm_laws_runs.specs.Swap.{clashes}
 use Rattle.dsm_laws_runs.specs.Commuting.{a_lock, a_barrier, a_cell, touched, TouchNothingInCommon, Commute}
 
@@ -40,40 +36,27 @@ kept_arrivals arrived _ bar other = refl
 changed : {A : Type 0} (f : ℕ → ℕ → A) (q : ℕ) (new : ℕ → A) (k : ℕ) → new k ≡ f q k → (r : ℕ) → update f q new r k ≡ f r k
 changed f q new k e r = grind arith
 
--- a state in which what p's turn touches is as it was
-record SameFor {S : Type 0} (procs : ℕ) (s t : PlainState S) (p : ℕ) (label : Label) : Type 0 where
-  held : t.held p ≡ s.held p
-  crossed : t.crossed p ≡ s.crossed p
-  loads : (cell : Cell) (value : ℤ) → label ≡ Label.Load cell value → t.memory cell.0 ≡ s.memory cell.0
-  takes : (lock : Lock) (mode : Mode) (version : ℕ) → label ≡ Label.Take lock mode version → t.versions lock.0 ≡ s.versions lock.0
-  can_take : (lock : Lock) (mode : Mode) (version : ℕ) → label ≡ Label.Take lock mode version → can_take procs t.held p lock.0 mode ≡ can_take procs s.held p lock.0 mode
-  can_cross : (bar : Bar) (epoch : ℕ) → label ≡ Label.Cross bar epoch → can_cross procs t.arrived (t.crossed p bar.0) bar.0 ≡ can_cross procs s.arrived (s.crossed p bar.0) bar.0
-
-same_turn : {S : Type 0} (setup : Setup) (s t : PlainState S) (p : ℕ) (text : List ℕ) (want : Want) (label : Label) → SameFor setup.procs s t p label →
-    plain_turn_of setup s p text want ≡ Some label → plain_turn_of setup t p text want ≡ Some label
-same_turn setup s t p text want label same e = grind (arith, same.held, same.crossed, same.loads, same.takes, same.can_take, same.can_cross)
-
 module _ {S : Type 0} (setup : Setup) (threads : Semantics S) (s : PlainState S) where
   -- another's turn leaves p's as it is
-  same_for : (p q : ℕ) (mine other : Label) → p ≢ q → TouchNothingInCommon mine other → SameFor setup.procs s (plain_after threads s q other) p mine
+  same_for : (p q : ℕ) (mine other : Label) → p ≢ q → TouchNothingInCommon mine other → SameFor setup.procs (plain_after threads s q other) s p mine
   same_for p q mine other apart nothing = record {
-    held = other_held threads s p q other apart;
-    crossed = other_crossed threads s p q other apart;
-    loads = λ cell value is. kept_cell s.memory other cell.0 (nothing (a_cell cell.0) (rw is refl));
-    takes = λ lock mode version is. kept_version s.versions (s.held q) other lock.0 (nothing (a_lock lock.0) (rw is refl));
-    can_take = λ lock mode version is.
+    held = sym (other_held threads s p q other apart);
+    crossed = sym (other_crossed threads s p q other apart);
+    loads = λ cell value is. sym (kept_cell s.memory other cell.0 (nothing (a_cell cell.0) (rw is refl)));
+    takes = λ lock mode version is. sym (kept_version s.versions (s.held q) other lock.0 (nothing (a_lock lock.0) (rw is refl)));
+    can_take = λ lock mode version is can.
         let same = changed s.held q (held_after (s.held q) other) lock.0 (kept_hold (s.held q) other lock.0 (nothing (a_lock lock.0) (rw is refl))) in
-        all_same setup.procs _ _ (λ r lt. rw (same r) refl);
-    can_cross = λ bar epoch is.
+        all_same setup.procs _ _ (λ r lt. rw (same r) refl) ∙ can;
+    can_cross = λ bar epoch is can.
         let same = changed s.arrived q (arrived_after (s.arrived q) other) bar.0 (kept_arrivals (s.arrived q) other bar.0 (nothing (a_barrier bar.0) (rw is refl))) in
-        rw (other_crossed threads s p q other apart) (all_same setup.procs _ _ (λ r lt. rw (same r) refl));
+        rw (other_crossed threads s p q other apart) (all_same setup.procs _ _ (λ r lt. rw (same r) refl)) ∙ can;
   }
 
   kept_turn : (p q : ℕ) (mine other : Label) → p ≢ q → TouchNothingInCommon mine other → plain_turn setup threads s p ≡ Some mine →
       plain_turn setup threads (plain_after threads s q other) p ≡ Some mine
   kept_turn p q mine other apart nothing turn =
       rw (other_thread threads s p q other apart)
-      (same_turn setup s (plain_after threads s q other) p _ _ mine (same_for p q mine other apart nothing) turn)
+      (same_turn setup (plain_after threads s q other) s p _ _ mine (same_for p q mine other apart nothing) turn)
 
 no_clash : (x y : Label) → TouchNothingInCommon x y → clashes x y ≡ false
 no_clash (Label.Store cell value) (Label.Store other new) nothing = let apart = nothing (a_cell cell.0) refl in grind arith
