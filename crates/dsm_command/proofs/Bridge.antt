@@ -1,7 +1,7 @@
 -- The walk of clap and the table agree on every list of words.
 use Rattle.clap.specs.Simple.{Shape}
 use Rattle.std.proofs.Common.{◌&&◌, ◌⊎◌, inl, inr, ◌≡◌, ◌∙◌, ◌==◌, ◌||◌, ℕ, Bool, cond, true, false, refl, sym, ap, subst, List, [], ◌∷◌, Option, Some, None, append_assoc, codes, append-nil, eqb-true}
-use Rattle.std.specs.List.{fold, list_any, before_first, after_first}
+use Rattle.std.specs.List.{fold, before_first}
 use Rattle.std.specs.Str.{IsUtf8, bytes_eq}
 use Rattle.clap.specs.Walk.{Held, Row, Rule, Text, Waiting, Walk, finished, arg_by_long, has_row, idle, nothing_held, option, positional, pushed, settled, walked, with_default}
 use Rattle.clap.specs.Kinds.{Kinds, or_else}

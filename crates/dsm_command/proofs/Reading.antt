@@ -1,9 +1,9 @@
 -- The words read one after another, with what they come to so far; and the arguments that they give.
-use Rattle.std.proofs.Common.{◌≡◌, ◌∙◌, ◌&&◌, ◌||◌, ◌+◌, Bool, cond, true, false, not, refl, sym, ap, ap₂, ℕ, List, [], ◌∷◌, ◌++◌, map, filter, take, drop, Option, Some, None, option_map, codes, append-nil, append_assoc, arith, suc}
+use Rattle.std.proofs.Common.{◌≡◌, ◌∙◌, ◌&&◌, ◌||◌, ◌+◌, Bool, cond, true, false, refl, sym, ap, ap₂, ℕ, List, [], ◌∷◌, ◌++◌, map, filter, drop, Option, Some, None, option_map, codes, append-nil, append_assoc, arith, suc}
 use Rattle.std.specs.Prelude.{option_and_then, if◌then◌else◌}
-use Rattle.std.specs.List.{before_first, after_first, list_any, filter_map, position_or_len, prefix_len}
+use Rattle.std.specs.List.{before_first, after_first, list_any, filter_map, position_or_len}
 use Rattle.std.specs.Str.{bytes_eq}
-use Rattle.dsm_command.specs.Commands.{Text, Command, Options, options_of, Word, trace, state, procs, procs_is, stray, positional, word_of, is_end, Argument, with_trace, with_state, for_procs, named, arguments_of, is_trace, is_state, procs_in, name_in, is_at_most_one, is_single, command_with, command_by, arguments_in, command_of}
+use Rattle.dsm_command.specs.Commands.{Text, Command, Options, Word, trace, state, procs, procs_is, stray, positional, word_of, is_end, Argument, with_trace, with_state, for_procs, named, arguments_of, is_trace, is_state, procs_in, name_in, is_at_most_one, is_single, command_with, command_by, arguments_in, command_of}
 use Rattle.dsm_command.specs.Parser.{Parts}
 
 abbrev pub no_parts : Parts

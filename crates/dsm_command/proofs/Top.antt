@@ -21,7 +21,7 @@ use Rattle.clap.proofs.WalkLemmas.{walk_stopped}
 use Rattle.dsm_command.specs.Commands.{command_of}
 use Rattle.dsm_command.specs.Parser.{Parts}
 use Rattle.dsm_command.proofs.Reading.{asked_by, no_parts, read, command_of-read}
-use Rattle.dsm_command.specs.Parser.{Says, flag_text, program, values_of}
+use Rattle.dsm_command.specs.Parser.{Says, program, values_of}
 use Rattle.dsm_command.proofs.Rows.{given_row, has_row-look, look, look_fresh, look_other}
 use Rattle.dsm_command.proofs.Steps.{Class, Knows, c, double, empty, ends, names_built, hyphen, leaf, other, own_procs, own_trace, same_nil, single, has_char}
 use Rattle.dsm_command.proofs.Bridge.{AllText, Ends, classify, level}

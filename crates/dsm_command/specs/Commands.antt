@@ -4,6 +4,7 @@ use Rattle.std.specs.List.{before_first, after_first, list_any, filter_map}
 use Rattle.std.specs.Str.{all_ascii_digits, bytes_eq}
 use Rattle.std.specs.Str.Parse.{digits_value}
 
+-- a text is a list of bytes
 abbrev pub Text : Type 0
 Text = List ℕ
 
@@ -38,6 +39,7 @@ pub record Options : Type 0 where
   pub flags : Bool
   pub procs : Bool
 
+-- `run` has the flags, and `check` has `--procs`
 abbrev pub options_of : Text → Options
 options_of command = record { flags = bytes_eq (codes "run") command; procs = bytes_eq (codes "check") command }
 
@@ -64,6 +66,7 @@ long_word own name None =
     else (if own.procs && bytes_eq (codes "procs") name then procs else stray))
 long_word own name (Some value) = if own.procs && bytes_eq (codes "procs") name then procs_is value else stray
 
+-- the byte `=`
 abbrev pub is_equals : ℕ → Bool
 is_equals byte = byte == 61
 
@@ -76,6 +79,7 @@ abbrev pub dashed_word : Options → Text → Word
 dashed_word own [] = positional (45 ∷ [])
 dashed_word own (second ∷ others) = if second == 45 then long_word own (before_first is_equals others) (value_in others) else stray
 
+-- what a word is for a command with such options
 abbrev pub word_of : Options → Text → Word
 word_of own [] = positional []
 word_of own (first ∷ others) = if first == 45 then dashed_word own others else positional (first ∷ others)
@@ -86,6 +90,7 @@ is_end word = bytes_eq word (codes "--")
 
 -- The arguments that words give.
 
+-- one thing that words give
 pub data Argument : Type 0 where
   with_trace : Argument
   with_state : Argument
@@ -103,22 +108,27 @@ arguments_of (procs_is value ∷ words) = option_map (λ more. for_procs value �
 arguments_of (positional word ∷ words) = option_map (λ more. named word ∷ more) (arguments_of words)
 arguments_of _ = None
 
+-- the argument is `--trace`
 abbrev pub is_trace : Argument → Bool
 is_trace with_trace = true
 is_trace _ = false
 
+-- the argument is `--state`
 abbrev pub is_state : Argument → Bool
 is_state with_state = true
 is_state _ = false
 
+-- its number of processors, where it is one
 abbrev pub procs_in : Argument → Option Text
 procs_in (for_procs value) = Some value
 procs_in _ = None
 
+-- its name, where it is a positional
 abbrev pub name_in : Argument → Option Text
 name_in (named word) = Some word
 name_in _ = None
 
+-- there is at most one
 abbrev pub is_at_most_one : List Argument → Bool
 is_at_most_one [] = true
 is_at_most_one (argument ∷ []) = true

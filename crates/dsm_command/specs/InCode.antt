@@ -6,6 +6,7 @@ use Rattle.dsm_command.specs.declared.command.Command as code
 use Rattle.dsm_command.specs.declared.command.WordsErr.{WordsErr}
 use Rattle.dsm_command.specs.declared.command.Command.TheVariants as code_of
 
+-- what a command in the code asks for
 abbrev pub command_in : code.Command → Command
 command_in (code_of.Run program schedule trace state) = run (string_bytes program) (string_bytes schedule) trace state
 command_in (code_of.Check program procs) = check (string_bytes program) procs
@@ -17,10 +18,12 @@ abbrev pub texts_in : Option (Bor (List (Bor Text))) → List Text
 texts_in None = []
 texts_in (Some texts) = map (λ text. text.now) texts.now
 
+-- the text, where there is one
 abbrev pub one_of : List Text → Option Text
 one_of (text ∷ []) = Some text
 one_of _ = None
 
+-- the texts, where there are two
 abbrev pub two_of : List Text → Option (Text × Text)
 two_of (first ∷ second ∷ []) = Some (first, second)
 two_of _ = None

@@ -5,6 +5,7 @@ use Rattle.clap.specs.Simple.{App, Shape, new_app, new_rule, new_shape, with_rul
 use Rattle.clap.specs.declared.builder.action.ArgAction.TheVariants.{Append, SetTrue}
 use Rattle.dsm_command.specs.Commands.{Text}
 
+-- the arguments of commands: positionals, the two flags, and the option with a value
 abbrev pub names_rule : Rule
 names_rule = record (new_rule (codes "names")) { action = Some Append }
 
@@ -21,9 +22,11 @@ procs_rule = record (new_rule (codes "procs")) { long = Some (codes "procs"); ac
 abbrev pub names_command : Text → App
 names_command name = with_rule (new_app name) names_rule
 
+-- `run`, with its two flags
 abbrev pub run_command : App
 run_command = with_rule (with_rule (names_command (codes "run")) trace_rule) state_rule
 
+-- `check`, with its option
 abbrev pub check_command : App
 check_command = with_rule (names_command (codes "check")) procs_rule
 
@@ -31,6 +34,7 @@ check_command = with_rule (names_command (codes "check")) procs_rule
 abbrev pub program_shape : Shape
 program_shape = record (new_shape (codes "dsm")) { no_binary_name = true; disable_help_flag = true; disable_help_subcommand = true; disable_version_flag = true; subcommand_required = true }
 
+-- all of it: the program with its four commands
 abbrev pub program : App
 program = with_subcommand (with_subcommand (with_subcommand (with_subcommand (record { top = program_shape; subs = [] }) run_command.top) check_command.top) (names_command (codes "plain")).top) (names_command (codes "load")).top
 
@@ -46,6 +50,7 @@ abbrev pub values_of : List Text → Option (List Text)
 values_of [] = None
 values_of (value ∷ values) = Some (value ∷ values)
 
+-- the text that the parser keeps for a flag
 abbrev pub flag_text : Bool → Text
 flag_text is = if is then codes "true" else codes "false"
 

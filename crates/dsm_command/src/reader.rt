@@ -130,7 +130,8 @@ fn command_with(
     names: Option<&[&str]>,
     numbers: Option<&[&str]>,
 ) -> Result<Command, WordsErr>
-    ensures { Answers (command_with command.now flags.0 flags.1 (texts_in names.entry) (texts_in numbers.entry)) result }
+    ensures { Answers (command_with command.now flags.0 flags.1
+        (texts_in names.entry) (texts_in numbers.entry)) result }
 {
     if command == "run" {
         return run(alloc, flags.0, flags.1, names);
@@ -140,7 +141,8 @@ fn command_with(
 
 /// The command of this name, by what was found in its words.
 fn command_found(alloc: Global, command: &str, found: &ArgMatches<'_>) -> Result<Command, WordsErr>
-    ensures { (parts : Parts) → Says (bytes_eq (codes "run") command.now) (rows_of (found_of found.now)) parts
+    ensures { (parts : Parts)
+        → Says (bytes_eq (codes "run") command.now) (rows_of (found_of found.now)) parts
         → Answers (command_with command.now parts.trace parts.state parts.names parts.numbers) result }
 {
     let trace = found.get_flag("trace");
@@ -153,8 +155,10 @@ fn command_found(alloc: Global, command: &str, found: &ArgMatches<'_>) -> Result
 /// Reads the words behind a program's name. `Refused` where they are those of no command; `Memory` where
 /// there is no memory for what they ask for.
 pub fn read_command(alloc: Global, words: &Vec<String>) -> Result<Command, WordsErr>
-    ensures command { IfOk result (λ command. command_of (map string_bytes words.now.items) ≡ Some (command_in command)) }
-    ensures refused { result ≡ Err WordsErr.Refused → command_of (map string_bytes words.now.items) ≡ None }
+    ensures command { IfOk result (λ command.
+        command_of (map string_bytes words.now.items) ≡ Some (command_in command)) }
+    ensures refused { result ≡ Err WordsErr.Refused
+        → command_of (map string_bytes words.now.items) ≡ None }
 {
     let parser = parser(alloc)?;
     let matches = match parser.try_get_matches_from(words.as_slice()) {

@@ -19,3 +19,4 @@ pub mod Agreements
 pub mod CopiesKept
 pub mod Newer
 pub mod ArrivalLines
+mod Example

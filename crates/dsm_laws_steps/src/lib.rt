@@ -11,5 +11,7 @@ use dsm_base::Task;
 /// Where each take brings its lock's cells as they were when its version was made, every processor
 /// agrees with the run: at each lock that it holds its own copy has the memory's values.
 pub fn agreement<T: Task>()
-    ensures { (setup : Setup) (first : ℕ → T.State) (steps : List Step) → IsLockRun setup first T.kind.semantics steps → Agreement setup first T.kind.semantics steps }
+    ensures { (setup : Setup) (first : ℕ → T.State) (steps : List Step) →
+        IsLockRun setup first T.kind.semantics steps →
+        Agreement setup first T.kind.semantics steps }
 {}

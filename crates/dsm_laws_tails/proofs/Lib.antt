@@ -5,3 +5,4 @@ pub mod Fronts
 pub mod Histories
 pub mod Tails
 pub mod Copies
+mod Example

@@ -70,8 +70,17 @@ module _ (procs : ℕ) (entries : List Entry) where
       let same : (λ (entry : Entry). length (units_of_entry procs entry)) ≡ unit_count procs = λ i entry. length-units procs entry i in
       length-flat_map (units_of_entry procs) (take k entries) ∙ ap (λ f. sum_by f (take k entries)) same
 
-  length-all : length (units_by procs entries) ≡ units_before procs entries (length entries)
+  -- all units, by their number
+  pub length-all : length (units_by procs entries) ≡ units_before procs entries (length entries)
   length-all = ap (λ es. length (flat_map (units_of_entry procs) es)) (sym (take_all entries)) ∙ length-front (length entries)
+
+  -- the end of the last entry is how many units there are
+  pub last_end : start_of (ends_of procs entries) (length (ends_of procs entries)) ≡ length (units_by procs entries)
+  last_end = ap (start_of (ends_of procs entries)) length-ends ∙ start_of-ends (length entries) (omega arith) ∙ sym length-all
+
+  -- and they are those of all entries
+  pub length-units_by : length (units_by procs entries) ≡ sum_by (unit_count procs) entries
+  length-units_by = length-all ∙ ap (sum_by (unit_count procs)) (take_all entries)
 
   module _ (index place : ℕ) (found : IsPlace (ends_of procs entries) index place) where
     -- the unit is in this entry

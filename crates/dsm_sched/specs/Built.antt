@@ -7,11 +7,13 @@ use Rattle.dsm_sched.specs.Entries.{◌>>=◌}
 use Rattle.dsm_sched.specs.declared.schedule.Entry.{Entry}
 use Rattle.dsm_sched.specs.ScheduleTexts.{schedule_said}
 
+-- a unit that can be run
 abbrev pub is_built_act : Act → Bool
 is_built_act (Act.Step proc) = true
 is_built_act (Act.Deliver from to) = true
 is_built_act _ = false
 
+-- an entry that can be run
 abbrev pub is_built : Entry → Bool
 is_built (Entry.Unit act count) = is_built_act act
 is_built (Entry.Finish rounds) = true
@@ -31,6 +33,7 @@ abbrev pub unbuilt_in : List Row → ℕ → List Entry → Option ℕ
 unbuilt_in [] procs entries = None
 unbuilt_in (first ∷ rows) procs entries = if procs == 2 then unbuilt_line rows entries else Some first.line
 
+-- what is said, unless such a line is told
 abbrev pub unless : Option ℕ → ℕ × List Entry → Result (ℕ × List Entry) SchedErr
 unless None said = Ok said
 unless (Some line) said = Err (SchedErr.NotBuilt line)

@@ -31,10 +31,12 @@ is_count count = nat_le 1 count && nat_le count 500000
 
 -- The numbers that stand behind a name.
 
+-- one number alone
 abbrev pub one_number : List (List ℕ) → Option ℕ
 one_number (word ∷ []) = number_of word
 one_number _ = None
 
+-- two numbers
 abbrev pub two_numbers : List (List ℕ) → Option (ℕ × ℕ)
 two_numbers (first ∷ second ∷ []) = option_and_then (λ a. option_map (λ b. (a, b)) (number_of second)) (number_of first)
 two_numbers _ = None

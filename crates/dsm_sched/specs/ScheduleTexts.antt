@@ -47,6 +47,7 @@ form_by arguments Kind.Crash = option_map Form.Crash (one_number arguments)
 form_by arguments Kind.Torn = option_map (λ numbers. Form.Torn numbers.0 numbers.1) (two_numbers arguments)
 form_by arguments Kind.Restart = option_map Form.Restart (one_number arguments)
 
+-- the form of an entry
 abbrev pub form_of : List (List ℕ) → Option Form
 form_of [] = None
 form_of (name ∷ arguments) = option_and_then (form_by arguments) (kind_of name)
@@ -57,10 +58,12 @@ form_of (name ∷ arguments) = option_and_then (form_by arguments) (kind_of name
 abbrev pub proc_in : ℕ → ℕ → Option Proc
 proc_in procs number = if nat_lt number procs then Some record { 0 = number } else None
 
+-- a delivery between two of them that differ
 abbrev pub deliver_in : ℕ → ℕ → ℕ → Option Act
 deliver_in procs from to =
     option_and_then (λ from. option_and_then (λ to. if not (from.0 == to.0) then Some (Act.Deliver from to) else None) (proc_in procs to)) (proc_in procs from)
 
+-- a crash that leaves at most a whole block
 abbrev pub torn_in : ℕ → ℕ → ℕ → Option Act
 torn_in procs proc kept = option_and_then (λ proc. if nat_le kept 512 then Some (Act.Torn proc kept) else None) (proc_in procs proc)
 

@@ -27,6 +27,7 @@ is_entry procs (Entry.Finish rounds) = is_count rounds
 abbrev pub others_of : ℕ → ℕ → List ℕ
 others_of procs proc = filter (λ other. not (other == proc)) (range_with_len 0 procs)
 
+-- the delivery from one processor to another, by their numbers
 abbrev pub deliver_to : ℕ → ℕ → Act
 deliver_to from to = Act.Deliver record { 0 = from } record { 0 = to }
 

@@ -58,7 +58,8 @@ pub(crate) struct Heading {
 /// Reads the first entry, `procs N`. `NoProcs` where no row is left or the first doesn't begin with
 /// `procs`, `BadEntry` where it isn't `procs N`, `OutOfRange` where N isn't 2 to 16.
 pub(crate) fn read_heading(alloc: Global, rows: &mut Rows<'_>) -> Result<Heading, SchedErr>
-    ensures said { Gives (λ heading. (heading.procs, rows_left rows.new)) result (headed (rows_left rows.old)) }
+    ensures said { Gives (λ heading. (heading.procs, rows_left rows.new)) result
+        (headed (rows_left rows.old)) }
     ensures count { IfOk result (λ heading. IsTrue (is_proc_count heading.procs)) }
     ensures line { IfOk result (λ heading. first_line (rows_left rows.old) ≡ Some heading.line) }
 {
@@ -77,7 +78,8 @@ pub(crate) fn read_heading(alloc: Global, rows: &mut Rows<'_>) -> Result<Heading
 
 /// Tests that a text isn't too long to be read: `TooLong` where it has over 4,194,304 bytes.
 pub(crate) fn test_length(text: &[u8]) -> Result<(), SchedErr>
-    ensures { MatchResult result (λ _. length text.now ≤ 4194304) (λ refusal. (4194304 < length text.now) × (refusal ≡ too_long text.now)) }
+    ensures { MatchResult result (λ _. length text.now ≤ 4194304)
+        (λ refusal. (4194304 < length text.now) × (refusal ≡ too_long text.now)) }
 {
     if text.len() > MOST_BYTES {
         return Err(SchedErr::TooLong {

@@ -82,7 +82,8 @@ impl<'a> Rows<'a> {
     /// Takes the next line, and answers its number too.
     fn take_line(&mut self) -> (u32, &'a [u8])
         requires { 0 < length self.old.text }
-        ensures rows { rows_left self.old ≡ with_row (row_of (result.0, result.1.now)) (rows_left self.new) }
+        ensures rows { rows_left self.old
+            ≡ with_row (row_of (result.0, result.1.now)) (rows_left self.new) }
         ensures shorter { length self.new.text < length self.old.text }
     {
         let number = self.number;
@@ -96,7 +97,8 @@ impl<'a> Rows<'a> {
 
     /// Takes the next row, where there is one. `MemFault` where there is no memory for it.
     pub fn next(&mut self, alloc: Global) -> Result<Option<Row<'a>>, MemFault>
-        ensures { IfOk result (λ next. MatchOption next (rows_left self.old ≡ []) (λ row. rows_left self.old ≡ row ∷ rows_left self.new)) }
+        ensures { IfOk result (λ next. MatchOption next (rows_left self.old ≡ [])
+            (λ row. rows_left self.old ≡ row ∷ rows_left self.new)) }
     {
         'lines: while !self.is_empty() {
             let (number, line) = self.take_line();

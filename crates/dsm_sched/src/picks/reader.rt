@@ -17,7 +17,8 @@ use std::alloc::Global;
 
 /// Reads the entries of the rows that are left.
 fn read_entries(alloc: Global, procs: u8, rows: &mut Rows<'_>) -> Result<PickEntries, SchedErr>
-    ensures said { Gives (λ entries. entries) result (all_or_refusal (map (pick_at procs) (rows_left rows.old))) }
+    ensures said { Gives (λ entries. entries) result
+        (all_or_refusal (map (pick_at procs) (rows_left rows.old))) }
     ensures kept { IfOk result (λ entries. IsTrue (list_all (is_entry procs) entries)) }
     ensures few { IfOk result (λ entries. length entries ≤ length (rows_left rows.old)) }
 {

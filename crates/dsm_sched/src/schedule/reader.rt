@@ -50,11 +50,14 @@ struct Read {
 
 /// Reads the entries of the rows that are left.
 fn read_entries(alloc: Global, procs: u8, rows: &mut Rows<'_>) -> Result<Read, SchedErr>
-    ensures said { Gives (λ read. read.entries) result (all_or_refusal (said_behind procs [] (rows_left rows.old))) }
+    ensures said { Gives (λ read. read.entries) result
+        (all_or_refusal (said_behind procs [] (rows_left rows.old))) }
     ensures kept { IfOk result (λ read. IsTrue (list_all (is_entry procs) read.entries)) }
     ensures few { IfOk result (λ read. length read.entries ≤ length (rows_left rows.old)) }
-    ensures unbuilt { IfOk result (λ read. read.unbuilt ≡ unbuilt_line (rows_left rows.old) read.entries) }
-    ensures built { IfOk result (λ read. read.unbuilt ≡ None → list_all is_built read.entries ≡ true) }
+    ensures unbuilt { IfOk result (λ read.
+        read.unbuilt ≡ unbuilt_line (rows_left rows.old) read.entries) }
+    ensures built { IfOk result (λ read.
+        read.unbuilt ≡ None → list_all is_built read.entries ≡ true) }
 {
     let mut entries = Items::new(alloc);
     let mut crashes = Crashes::Before;
@@ -80,9 +83,11 @@ struct Whole {
 fn read_whole(alloc: Global, bytes: &[u8]) -> Result<Whole, SchedErr>
     ensures said { Gives (λ whole. (whole.procs, whole.entries)) result (schedule_said bytes.now) }
     ensures kept { IfOk result (λ whole. IsTrue (is_schedule whole.procs whole.entries)) }
-    ensures unbuilt { IfOk result (λ whole. whole.unbuilt ≡ unbuilt_in (rows_of bytes.now) whole.procs whole.entries) }
+    ensures unbuilt { IfOk result (λ whole.
+        whole.unbuilt ≡ unbuilt_in (rows_of bytes.now) whole.procs whole.entries) }
     ensures two { IfOk result (λ whole. whole.unbuilt ≡ None → whole.procs ≡ 2) }
-    ensures built { IfOk result (λ whole. whole.unbuilt ≡ None → list_all is_built whole.entries ≡ true) }
+    ensures built { IfOk result (λ whole.
+        whole.unbuilt ≡ None → list_all is_built whole.entries ≡ true) }
 {
     test_length(bytes)?;
     let mut rows = Rows::new(bytes);
@@ -113,7 +118,8 @@ fn read_whole(alloc: Global, bytes: &[u8]) -> Result<Whole, SchedErr>
 /// `procs N` for more than two processors and any entry of images and crashes; `Memory` where there is
 /// no memory for it.
 pub fn read_schedule(alloc: Global, bytes: &[u8]) -> Result<Schedule, SchedErr>
-    ensures said { Gives (λ schedule. (schedule.procs, schedule.entries)) result (built_said bytes.now) }
+    ensures said { Gives (λ schedule. (schedule.procs, schedule.entries)) result
+        (built_said bytes.now) }
     ensures procs { IfOk result (λ schedule. schedule.procs ≡ 2) }
     ensures built { IfOk result (λ schedule. IsTrue (list_all is_built schedule.entries)) }
 {

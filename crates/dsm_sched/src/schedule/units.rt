@@ -117,12 +117,22 @@ impl Schedule {
         })
     }
 
+    /// How many units there are, at most 500,000.
+    pub fn units(&self) -> u32
+        ensures count { result ≡ length (units_of self.now) }
+        ensures few { result ≤ 500000 }
+    {
+        let ends = self.ends.as_slice();
+        start_of(ends, ends.len())
+    }
+
     /// The unit with this number, from 0, where there are so many. Takes no memory, and time in the
     /// logarithm of the number of entries.
     pub fn act(&self, index: u32) -> Option<Act>
         ensures unit { result ≡ slice_get (units_of self.now) index }
         ensures within { IfSome result (λ act. IsTrue (is_act self.now.procs act)) }
-        ensures built { list_all is_built self.now.entries ≡ true → IfSome result (λ act. is_built_act act ≡ true) }
+        ensures built { list_all is_built self.now.entries ≡ true
+            → IfSome result (λ act. is_built_act act ≡ true) }
     {
         let ends = self.ends.as_slice();
         let place = place_of(ends, index);

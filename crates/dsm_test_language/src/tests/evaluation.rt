@@ -351,10 +351,7 @@ fn statements(rt: HostRuntime) -> Result<(), Fail> {
             "int i; for (; ; i++) { if (i == 1) continue; if (i > 2) break; print(i); }",
             "0\n2",
         ),
-        (
-            "if (0) print(1); else if (2) print(3); else print(4);",
-            "3",
-        ),
+        ("if (0) print(1); else if (2) print(3); else print(4);", "3"),
         ("if (0) print(1);", ""),
         ("print(nothing(7), early(1), early(0));", "012"),
         ("print(\"a\", -1, \"\", 2, \"b\");", "a-12b"),

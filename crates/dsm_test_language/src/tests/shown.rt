@@ -3,7 +3,8 @@
 use crate::tests::texts::named;
 use dsm_base::Text;
 use dsm_syntax::{
-    AssignOp, Declarator, Expr, ForStart, Item, Name, Params, Part, Place, Sharing, Stmt, Variable,
+    AssignOp, Declarator, Expression, ForStart, Item, Name, Params, Part, Place, Sharing,
+    Statement, Variable,
 };
 use std::alloc::{AllocError, Global};
 
@@ -62,15 +63,15 @@ fn assign_name(alloc: Global, op: AssignOp) -> Result<String, AllocError> {
 }
 
 #[cycle(show)]
-fn show_expression(alloc: Global, out: &mut String, value: &Expr) -> Result<(), AllocError> {
+fn show_expression(alloc: Global, out: &mut String, value: &Expression) -> Result<(), AllocError> {
     match value {
-        Expr::Number(number) => return show_number(alloc, out, *number),
-        Expr::Place(place) => return show_place(alloc, out, place),
-        Expr::Paren(inner) => {
+        Expression::Number(number) => return show_number(alloc, out, *number),
+        Expression::Place(place) => return show_place(alloc, out, place),
+        Expression::Paren(inner) => {
             out.push_str("(paren ")?;
             show_expression(alloc, out, inner)?;
         }
-        Expr::Call(name, arguments) => {
+        Expression::Call(name, arguments) => {
             out.push_str("(call ")?;
             show_name(alloc, out, name)?;
             for argument in arguments {
@@ -78,29 +79,29 @@ fn show_expression(alloc: Global, out: &mut String, value: &Expr) -> Result<(), 
                 show_expression(alloc, out, argument)?;
             }
         }
-        Expr::Unary(op, line, operand) => {
+        Expression::Unary(op, line, operand) => {
             let name = format!(in alloc; "{op:?}")?;
             show_operator(alloc, out, name.as_str(), *line)?;
             show_expression(alloc, out, operand)?;
         }
-        Expr::Prefix(op, line, place) => {
+        Expression::Prefix(op, line, place) => {
             let name = format!(in alloc; "before {op:?}")?;
             show_operator(alloc, out, name.as_str(), *line)?;
             show_place(alloc, out, place)?;
         }
-        Expr::Postfix(place, op, line) => {
+        Expression::Postfix(place, op, line) => {
             let name = format!(in alloc; "behind {op:?}")?;
             show_operator(alloc, out, name.as_str(), *line)?;
             show_place(alloc, out, place)?;
         }
-        Expr::Binary(left, op, line, right) => {
+        Expression::Binary(left, op, line, right) => {
             let name = format!(in alloc; "{op:?}")?;
             show_operator(alloc, out, name.as_str(), *line)?;
             show_expression(alloc, out, left)?;
             out.push_str(" ")?;
             show_expression(alloc, out, right)?;
         }
-        Expr::Choice(test, line, then, other) => {
+        Expression::Choice(test, line, then, other) => {
             show_operator(alloc, out, "choice", *line)?;
             show_expression(alloc, out, test)?;
             out.push_str(" ")?;
@@ -108,7 +109,7 @@ fn show_expression(alloc: Global, out: &mut String, value: &Expr) -> Result<(), 
             out.push_str(" ")?;
             show_expression(alloc, out, other)?;
         }
-        Expr::Assign(place, op, line, assigned) => {
+        Expression::Assign(place, op, line, assigned) => {
             let name = assign_name(alloc, *op)?;
             show_operator(alloc, out, name.as_str(), *line)?;
             show_place(alloc, out, place)?;
@@ -142,7 +143,11 @@ fn show_variables(alloc: Global, out: &mut String, all: &[Variable]) -> Result<(
 }
 
 /// An expression, or `-` where there is none.
-fn show_option(alloc: Global, out: &mut String, value: &Option<Expr>) -> Result<(), AllocError> {
+fn show_option(
+    alloc: Global,
+    out: &mut String,
+    value: &Option<Expression>,
+) -> Result<(), AllocError> {
     match value {
         Some(value) => show_expression(alloc, out, value),
         None => out.push_str("-"),
@@ -186,28 +191,32 @@ fn show_word(alloc: Global, out: &mut String, word: &str, line: u32) -> Result<(
     show_line(alloc, out, line)
 }
 
-pub fn show_statement(alloc: Global, out: &mut String, statement: &Stmt) -> Result<(), AllocError> {
+pub fn show_statement(
+    alloc: Global,
+    out: &mut String,
+    statement: &Statement,
+) -> Result<(), AllocError> {
     match statement {
-        Stmt::Block(body) => {
+        Statement::Block(body) => {
             out.push_str("(block")?;
             for inner in body {
                 out.push_str(" ")?;
                 show_statement(alloc, out, inner)?;
             }
         }
-        Stmt::Empty => out.push_str("(empty")?,
-        Stmt::Variables(all) => return show_variables(alloc, out, all.as_slice()),
-        Stmt::Expression(value) => {
+        Statement::Empty => out.push_str("(empty")?,
+        Statement::Variables(all) => return show_variables(alloc, out, all.as_slice()),
+        Statement::Expression(value) => {
             out.push_str("(do ")?;
             show_expression(alloc, out, value)?;
         }
-        Stmt::If(test, body) => {
+        Statement::If(test, body) => {
             out.push_str("(if ")?;
             show_expression(alloc, out, test)?;
             out.push_str(" ")?;
             show_statement(alloc, out, body)?;
         }
-        Stmt::IfElse(test, body, other) => {
+        Statement::IfElse(test, body, other) => {
             out.push_str("(if ")?;
             show_expression(alloc, out, test)?;
             out.push_str(" ")?;
@@ -215,13 +224,13 @@ pub fn show_statement(alloc: Global, out: &mut String, statement: &Stmt) -> Resu
             out.push_str(" ")?;
             show_statement(alloc, out, other)?;
         }
-        Stmt::While(test, body) => {
+        Statement::While(test, body) => {
             out.push_str("(while ")?;
             show_expression(alloc, out, test)?;
             out.push_str(" ")?;
             show_statement(alloc, out, body)?;
         }
-        Stmt::For(start, test, step, body) => {
+        Statement::For(start, test, step, body) => {
             out.push_str("(for ")?;
             show_start(alloc, out, start)?;
             out.push_str(" ")?;
@@ -231,23 +240,23 @@ pub fn show_statement(alloc: Global, out: &mut String, statement: &Stmt) -> Resu
             out.push_str(" ")?;
             show_statement(alloc, out, body)?;
         }
-        Stmt::Break { line } => show_word(alloc, out, "break", *line)?,
-        Stmt::Continue { line } => show_word(alloc, out, "continue", *line)?,
-        Stmt::Return { line, value } => {
+        Statement::Break { line } => show_word(alloc, out, "break", *line)?,
+        Statement::Continue { line } => show_word(alloc, out, "continue", *line)?,
+        Statement::Return { line, value } => {
             show_word(alloc, out, "return", *line)?;
             if let Some(value) = value {
                 out.push_str(" ")?;
                 show_expression(alloc, out, value)?;
             }
         }
-        Stmt::Acquire(place) => show_lock(alloc, out, "acquire", place)?,
-        Stmt::AcquireShared(place) => show_lock(alloc, out, "acquire_shared", place)?,
-        Stmt::Release(place) => show_lock(alloc, out, "release", place)?,
-        Stmt::Barrier(name) => {
+        Statement::Acquire(place) => show_lock(alloc, out, "acquire", place)?,
+        Statement::AcquireShared(place) => show_lock(alloc, out, "acquire_shared", place)?,
+        Statement::Release(place) => show_lock(alloc, out, "release", place)?,
+        Statement::Barrier(name) => {
             out.push_str("(barrier ")?;
             show_name(alloc, out, name)?;
         }
-        Stmt::Print(parts) => {
+        Statement::Print(parts) => {
             out.push_str("(print")?;
             for part in parts {
                 show_part(alloc, out, part)?;

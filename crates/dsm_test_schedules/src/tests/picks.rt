@@ -1,7 +1,7 @@
 //! Texts with their picks, and texts that are refused.
 
-use dsm_picks::{PickEntry, read_picks};
 use dsm_base::{Proc, SchedErr};
+use dsm_picks::{PickEntry, read_picks};
 use std::test::Fail;
 
 const A: Proc = Proc(0);
@@ -65,7 +65,10 @@ fn other_texts_are_refused(rt: HostRuntime) -> Result<(), Fail> {
         ("procs 2\npick 00\n", SchedErr::BadEntry { line: 2 }),
         ("procs 2\npick 0 01\n", SchedErr::BadEntry { line: 2 }),
         ("procs 2\npick a 1\n", SchedErr::BadEntry { line: 2 }),
-        ("procs 2\npick 0 1000000000\n", SchedErr::BadEntry { line: 2 }),
+        (
+            "procs 2\npick 0 1000000000\n",
+            SchedErr::BadEntry { line: 2 },
+        ),
         ("procs 2\nall\n", SchedErr::BadEntry { line: 2 }),
         ("procs 2\nall 1 1\n", SchedErr::BadEntry { line: 2 }),
         ("procs 2\nall +1\n", SchedErr::BadEntry { line: 2 }),
@@ -85,7 +88,10 @@ fn other_texts_are_refused(rt: HostRuntime) -> Result<(), Fail> {
         ("procs 2\npick 2\nall\n", SchedErr::OutOfRange { line: 2 }),
         ("procs 2\nall\npick 2\n", SchedErr::BadEntry { line: 2 }),
         ("procs 2\npick 9 x\n", SchedErr::BadEntry { line: 2 }),
-        ("procs 2\nall 500000\npick 2\n", SchedErr::OutOfRange { line: 3 }),
+        (
+            "procs 2\nall 500000\npick 2\n",
+            SchedErr::OutOfRange { line: 3 },
+        ),
         ("pick 0 0\nprocs 99\n", SchedErr::NoProcs),
         // Too many units.
         (

@@ -2,8 +2,8 @@
 
 ghost use Rattle.std.specs.Prelude.{◌<◌, length};
 
-use dsm_words::{Rows, number, read_procs};
 use dsm_base::{MemFault, SchedErr};
+use dsm_words::{Rows, number, read_procs};
 use std::alloc::Global;
 use std::test::Fail;
 

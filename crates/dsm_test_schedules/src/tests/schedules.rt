@@ -1,7 +1,7 @@
 //! Texts with their units, and texts that aren't schedules.
 
-use dsm_sched::{MOST_BYTES, read_schedule};
 use dsm_base::{Act, Proc, SchedErr};
+use dsm_sched::{MOST_BYTES, read_schedule};
 use std::test::Fail;
 
 const A: Proc = Proc(0);

@@ -1,4 +1,4 @@
-use Rattle.std.proofs.Common.{codes, ◌≡◌, ◌∙◌, List, [], ◌∷◌, Option, Some, None, Result, Ok, Err, IfOk, sym, ap, subst, map, string_bytes, true≢false, refl}
+use Rattle.std.proofs.Common.{codes, ◌≡◌, ◌∙◌, List, [], ◌∷◌, Option, Some, None, Result, Ok, Err, IfOk, sym, ap, subst, map, string_bytes, true≢false}
 use Rattle.std.proofs.lemmas.Str.{IsUtf8-string_bytes}
 use Rattle.std.specs.Prelude.{String}
 use Rattle.std.specs.Str.{bytes_eq}
@@ -9,7 +9,6 @@ use Rattle.clap.specs.Walk.{Row}
 use Rattle.dsm_command.specs.Commands.{Text, Command, command_of, command_with}
 use Rattle.dsm_command.specs.InCode.{command_in, Answers}
 use Rattle.dsm_command.specs.Parser.{Parts, Says}
-use Rattle.dsm_command.proofs.Reading.{asked_by}
 use Rattle.dsm_command.proofs.Bridge.{AllText}
 use Rattle.dsm_command.proofs.Top.{Reads, entered_is, reads, refused}
 use Rattle.dsm_command.proofs.reader.read_command.Goals as goal
