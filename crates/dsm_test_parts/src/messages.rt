@@ -16,9 +16,9 @@ const KINDS: &[&[u8]] = &[
     &REQUEST,
     // A grant with a line of two values behind a carry with two records and a printed line.
     &[
-        2, 0, 1, 0, 0, 0, 9, 0, 0, 0, 4, 0, 0, 0, 2, 0, 0, 0, 3, 0, 2, 0, 0, 0, 0, 0, 0, 0, 7, 1, 0, 0,
-        0, 0, 5, 0, 0, 0, 1, 0, 0, 0, 8, 0, 2, 104, 105, 0, 5, 0, 0, 0, 0, 6, 0, 0, 0, 1, 0, 0, 0, 1, 0,
-        0, 0, 3, 2, 0, 0, 0, 0, 0, 0, 0, 5, 255, 255, 255, 255, 255, 255, 255, 254,
+        2, 0, 1, 0, 0, 0, 9, 0, 0, 0, 4, 0, 0, 0, 2, 0, 0, 0, 3, 0, 2, 0, 0, 0, 0, 0, 0, 0, 7, 1,
+        0, 0, 0, 0, 5, 0, 0, 0, 1, 0, 0, 0, 8, 0, 2, 104, 105, 0, 5, 0, 0, 0, 0, 6, 0, 0, 0, 1, 0,
+        0, 0, 1, 0, 0, 0, 3, 2, 0, 0, 0, 0, 0, 0, 0, 5, 255, 255, 255, 255, 255, 255, 255, 254,
     ],
     // A release of a shared hold, without lines.
     &[
@@ -35,20 +35,20 @@ const KINDS: &[&[u8]] = &[
     &[7, 1, 0, 0, 0, 0, 5, 0, 0, 0, 5, 0, 0, 0, 0, 0, 0, 0, 0],
     // A request and an arrival again.
     &[
-        8, 1, 0, 0, 0, 0, 5, 0, 0, 0, 5, 0, 0, 0, 0, 0, 0, 0, 0, 0, 0, 0, 2, 0, 0, 0, 1, 1, 0, 0, 0, 0,
-        0, 0, 0, 0, 0, 0, 4, 4, 2, 0, 0, 0, 0, 0, 0, 0, 0,
+        8, 1, 0, 0, 0, 0, 5, 0, 0, 0, 5, 0, 0, 0, 0, 0, 0, 0, 0, 0, 0, 0, 2, 0, 0, 0, 1, 1, 0, 0,
+        0, 0, 0, 0, 0, 0, 0, 0, 4, 4, 2, 0, 0, 0, 0, 0, 0, 0, 0,
     ],
     // A report with a member in each list; of the standings one is granted and one isn't.
     &[
-        9, 1, 0, 0, 0, 0, 5, 0, 0, 0, 5, 0, 0, 0, 0, 0, 0, 0, 0, 0, 0, 0, 1, 0, 0, 0, 2, 0, 1, 1, 0, 0, 0,
-        3, 0, 0, 0, 1, 0, 0, 0, 4, 2, 0, 0, 0, 1, 0, 0, 0, 1, 0, 0, 0, 6, 0, 0, 0, 0, 0, 2, 0, 0, 0, 2, 0,
-        1, 0, 0, 0, 1, 0, 0, 0, 0, 0, 1, 0, 0, 0, 2, 0, 0, 0, 0, 0, 0, 0, 1, 2, 0, 0, 0, 0, 0, 0, 0, 0, 0,
-        0, 0, 2, 0, 0, 1, 1, 0, 0, 0, 0, 0, 0, 0, 2, 0, 2, 0, 0, 0, 0, 0, 7, 0, 0, 0, 0, 0, 0, 0, 1, 0, 0,
-        0, 0, 3, 0, 0, 0, 2,
+        9, 1, 0, 0, 0, 0, 5, 0, 0, 0, 5, 0, 0, 0, 0, 0, 0, 0, 0, 0, 0, 0, 1, 0, 0, 0, 2, 0, 1, 1,
+        0, 0, 0, 3, 0, 0, 0, 1, 0, 0, 0, 4, 2, 0, 0, 0, 1, 0, 0, 0, 1, 0, 0, 0, 6, 0, 0, 0, 0, 0,
+        2, 0, 0, 0, 2, 0, 1, 0, 0, 0, 1, 0, 0, 0, 0, 0, 1, 0, 0, 0, 2, 0, 0, 0, 0, 0, 0, 0, 1, 2,
+        0, 0, 0, 0, 0, 0, 0, 0, 0, 0, 0, 2, 0, 0, 1, 1, 0, 0, 0, 0, 0, 0, 0, 2, 0, 2, 0, 0, 0, 0,
+        0, 7, 0, 0, 0, 0, 0, 0, 0, 1, 0, 0, 0, 0, 3, 0, 0, 0, 2,
     ],
     &[
-        10, 1, 0, 0, 0, 0, 5, 0, 0, 0, 5, 0, 0, 0, 0, 0, 0, 0, 0, 0, 0, 0, 8, 0, 0, 0, 2, 0, 0, 0, 0, 0,
-        3, 0, 1, 0, 0, 0, 0, 0, 0, 0, 1, 0, 0, 0, 0, 2,
+        10, 1, 0, 0, 0, 0, 5, 0, 0, 0, 5, 0, 0, 0, 0, 0, 0, 0, 0, 0, 0, 0, 8, 0, 0, 0, 2, 0, 0, 0,
+        0, 0, 3, 0, 1, 0, 0, 0, 0, 0, 0, 0, 1, 0, 0, 0, 0, 2,
     ],
 ];
 
@@ -90,14 +90,15 @@ const REFUSED: &[(&[u8], MsgErr)] = &[
     // A shared release with a line, and a line without values.
     (
         &[
-            3, 2, 1, 0, 0, 0, 4, 0, 0, 0, 0, 0, 0, 0, 0, 0, 0, 0, 0, 0, 3, 0, 0, 0, 0, 6, 0, 0, 0, 1,
+            3, 2, 1, 0, 0, 0, 4, 0, 0, 0, 0, 0, 0, 0, 0, 0, 0, 0, 0, 0, 3, 0, 0, 0, 0, 6, 0, 0, 0,
+            1,
         ],
         MsgErr::BadField { place: 26 },
     ),
     (
         &[
-            4, 2, 1, 0, 0, 0, 4, 0, 0, 0, 0, 0, 0, 0, 0, 0, 0, 0, 0, 0, 0, 0, 0, 0, 0, 0, 0, 1, 0, 0, 0, 0,
-            0,
+            4, 2, 1, 0, 0, 0, 4, 0, 0, 0, 0, 0, 0, 0, 0, 0, 0, 0, 0, 0, 0, 0, 0, 0, 0, 0, 0, 1, 0,
+            0, 0, 0, 0,
         ],
         MsgErr::BadField { place: 32 },
     ),
@@ -110,7 +111,9 @@ const REFUSED: &[(&[u8], MsgErr)] = &[
     ),
     // A whole message with more behind it.
     (
-        &[6, 0, 1, 0, 0, 0, 5, 0, 0, 0, 0, 0, 0, 0, 0, 0, 0, 0, 0, 6, 0],
+        &[
+            6, 0, 1, 0, 0, 0, 5, 0, 0, 0, 0, 0, 0, 0, 0, 0, 0, 0, 0, 6, 0,
+        ],
         MsgErr::Rest { count: 2 },
     ),
 ];
@@ -136,7 +139,7 @@ fn a_request_has_its_26_bytes(rt: HostRuntime) -> Result<(), Fail> {
     };
     let mut out = Vec::new(rt.alloc());
     write_msg(&msg, &mut out)?;
-    assert_eq!(rt; out.as_slice(), &REQUEST);
+    assert_eq!(rt; out.as_slice(), REQUEST.as_slice());
     Ok(())
 }
 
@@ -155,7 +158,10 @@ fn each_kind_is_read_and_written_again(rt: HostRuntime) -> Result<(), Fail> {
 fn each_kind_cut_is_short(rt: HostRuntime) {
     for bytes in KINDS {
         for len in 0..bytes.len() {
-            assert_eq!(rt; read_msg(rt.alloc(), &bytes[..len]).err(), Some(MsgErr::Short));
+            assert_eq!(rt;
+                read_msg(rt.alloc(), &bytes[..len]).err(),
+                Some(MsgErr::Short)
+            );
         }
     }
 }
@@ -175,7 +181,13 @@ fn text(error: MsgErr) -> InlineText<32> {
 fn refusals_have_texts(rt: HostRuntime) {
     assert_eq!(rt; text(MsgErr::Short).as_str(), "short");
     assert_eq!(rt; text(MsgErr::BadKind(11)).as_str(), "bad kind 11");
-    assert_eq!(rt; text(MsgErr::BadField { place: 21 }).as_str(), "bad field at 21");
-    assert_eq!(rt; text(MsgErr::Rest { count: 1 }).as_str(), "1 bytes too many");
+    assert_eq!(rt;
+        text(MsgErr::BadField { place: 21 }).as_str(),
+        "bad field at 21"
+    );
+    assert_eq!(rt;
+        text(MsgErr::Rest { count: 1 }).as_str(),
+        "1 bytes too many"
+    );
     assert_eq!(rt; text(MsgErr::Memory).as_str(), "out of memory");
 }
