@@ -109,9 +109,18 @@ const REFUSED: &[(&[u8], MsgErr)] = &[
         ],
         MsgErr::BadField { place: 27 },
     ),
-    // A whole message with more behind it.
+    // The request with one byte more, and a note with two.
     (
         &[
+<<<<<<< HEAD
+=======
+            1, 1, 0, 0, 0, 0, 1, 0, 0, 0, 0, 0, 0, 0, 0, 0, 0, 0, 0, 0, 0, 1, 0, 0, 0, 0, 0,
+        ],
+        MsgErr::Rest { count: 1 },
+    ),
+    (
+        &[
+>>>>>>> 486bffade1b0f10cf4bb7a0c828f0713c0ac7e16
             6, 0, 1, 0, 0, 0, 5, 0, 0, 0, 0, 0, 0, 0, 0, 0, 0, 0, 0, 6, 0,
         ],
         MsgErr::Rest { count: 2 },
@@ -139,7 +148,7 @@ fn a_request_has_its_26_bytes(rt: HostRuntime) -> Result<(), Fail> {
     };
     let mut out = Vec::new(rt.alloc());
     write_msg(&msg, &mut out)?;
-    assert_eq!(rt; out.as_slice(), &REQUEST);
+    assert_eq!(rt; out.as_slice(), REQUEST.as_slice());
     Ok(())
 }
 
