@@ -112,15 +112,12 @@ const REFUSED: &[(&[u8], MsgErr)] = &[
     // The request with one byte more, and a note with two.
     (
         &[
-<<<<<<< HEAD
-=======
             1, 1, 0, 0, 0, 0, 1, 0, 0, 0, 0, 0, 0, 0, 0, 0, 0, 0, 0, 0, 0, 1, 0, 0, 0, 0, 0,
         ],
         MsgErr::Rest { count: 1 },
     ),
     (
         &[
->>>>>>> 486bffade1b0f10cf4bb7a0c828f0713c0ac7e16
             6, 0, 1, 0, 0, 0, 5, 0, 0, 0, 0, 0, 0, 0, 0, 0, 0, 0, 0, 6, 0,
         ],
         MsgErr::Rest { count: 2 },
