@@ -5,7 +5,7 @@ ghost use Rattle.dsm_syntax.specs.declared.errors.ProgErr.TheVariants.{Memory};
 ghost use Rattle.dsm_syntax.specs.Views.{view_item, view_items};
 ghost use Rattle.dsm_check.specs.Environments.{extent};
 ghost use Rattle.dsm_check.specs.Checks.{used};
-ghost use Rattle.dsm_check.specs.Bindings.{as_locks, as_size, as_index, as_shared, locks_of, barrier_of, shared_of, bound, first_bound, lock_piece, lock_pieces, barrier_piece, is_range, is_rhythm, with_bind, with_bind_each, with_bind_barrier, with_binding, pieces_of};
+ghost use Rattle.dsm_check.specs.Bindings.{as_locks, as_size, as_index, as_shared, locks_of, barrier_of, shared_of, bound, first_bound, lock_piece, lock_pieces, is_range, is_rhythm, with_bind, with_bind_each, with_bind_barrier, with_binding, pieces_of};
 ghost use Rattle.dsm_check.specs.Numbers.{IsThere};
 ghost use Rattle.dsm_check.specs.FileTables.{names_of};
 ghost use Rattle.dsm_check.specs.Overlaps.{overlap, earlier};

@@ -1,6 +1,6 @@
 //! Functions with every name resolved.
 
-ghost use Rattle.std.specs.Prelude.{◌≡◌, ◌≤◌, [], ◌++◌, map, length, OnOk};
+ghost use Rattle.std.specs.Prelude.{◌≡◌, ◌≤◌, map, length, OnOk};
 ghost use Rattle.dsm_syntax.specs.Views.{view_function, view_items};
 ghost use Rattle.dsm_check.specs.Views.{view_function as view_resolved};
 ghost use Rattle.dsm_check.specs.Checks.{each};

@@ -1,6 +1,6 @@
 //! What names stand for.
 
-ghost use Rattle.std.specs.Prelude.{◌≡◌, List, [], ◌∷◌, None, IsTrue, IfSome, OnOk};
+ghost use Rattle.std.specs.Prelude.{◌≡◌, [], ◌∷◌, None, IsTrue, IfSome, OnOk};
 ghost use Rattle.dsm_check.specs.Environments.{known, meaning};
 ghost use Rattle.dsm_check.specs.Tables.{IsFound, shown};
 ghost use Rattle.dsm_check.specs.Numbers.{is_next, is_numbered, IsThere};

@@ -1,7 +1,7 @@
 //! The names that are known at a place of a body.
 
 ghost use Rattle.std.specs.Prelude.{◌≡◌, ◌+◌, ◌≤◌, OnOk, IfOk};
-ghost use Rattle.dsm_check.specs.Environments.{meaning, is_here, opened, closed};
+ghost use Rattle.dsm_check.specs.Environments.{meaning, is_here, closed};
 ghost use Rattle.dsm_check.specs.Checks.{used};
 ghost use Rattle.dsm_check.specs.Bodies.{open_block, with_variable};
 ghost use Rattle.dsm_check.specs.FileTables.{names_of};
@@ -41,7 +41,7 @@ pub struct Scope<'a> {
 }
 
 impl<'a> Scope<'a> {
-    ghost use Rattle.dsm_check.specs.BodyTables.{scope_of, locals_of, blocks_in};
+    ghost use Rattle.dsm_check.specs.BodyTables.{scope_of, blocks_in};
 
     /// The names of a file, and none of a function.
     pub fn new(alloc: Global, file: &'a Names) -> Scope<'a>

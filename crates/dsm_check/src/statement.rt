@@ -4,7 +4,7 @@ ghost use Rattle.std.specs.Prelude.{◌≡◌, ◌≤◌, map, min, false, Ok, E
 ghost use Rattle.dsm_syntax.specs.Views as tree;
 ghost use Rattle.dsm_check.specs.Views.{view, view_variable, view_part, view_start, view_lock, view_statement, view_statements};
 ghost use Rattle.dsm_check.specs.Checks.{each_made};
-ghost use Rattle.dsm_check.specs.Bodies.{resolve_variable, as_one_lock, as_lock_array, resolve_lock, resolve_part, all_made, text_bytes, resolve_print, resolve_start, resolve_return, resolve_statement, resolve_statements, open_block, closing};
+ghost use Rattle.dsm_check.specs.Bodies.{resolve_variable, as_one_lock, as_lock_array, resolve_lock, resolve_part, text_bytes, resolve_print, resolve_start, resolve_return, resolve_statement, resolve_statements, open_block, closing};
 ghost use Rattle.dsm_syntax.specs.declared.errors.ProgErr.TheVariants.{OutsideLoop};
 ghost use Rattle.dsm_syntax.specs.Tree as t;
 ghost use Rattle.dsm_check.specs.Bindings.{as_barrier};

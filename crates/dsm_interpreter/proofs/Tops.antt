@@ -1,5 +1,5 @@
 -- What stands on top of a stack of values.
-use Rattle.std.proofs.Common.{◌≡◌, ℕ, ◌≢◌, ℤ, pos, List, [], ◌∷◌, length, take, get_or, refl}
+use Rattle.std.proofs.Common.{◌≡◌, ◌≢◌, ℤ, pos, List, [], ◌∷◌, length, take, get_or, refl}
 use Rattle.std.specs.Prelude.{reverse}
 use Rattle.dsm_semantics.specs.States.{top, below}
 

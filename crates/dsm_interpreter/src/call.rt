@@ -1,8 +1,7 @@
 //! Calls and returns.
 
-ghost use Rattle.std.specs.Prelude.{◌≡◌, ℤ, [], ◌∷◌, map, slice_get, OnOk, OnSome, IfOk, Some};
+ghost use Rattle.std.specs.Prelude.{◌≡◌, ℤ, [], ◌∷◌, map, slice_get, OnOk, IfOk, Some};
 ghost use Rattle.dsm_check.specs.Views.{view_function};
-ghost use Rattle.dsm_base.specs.Steps.{next_of};
 ghost use Rattle.dsm_semantics.specs.Semantics;
 ghost use Rattle.dsm_check.specs.Resolved as r;
 ghost use Rattle.dsm_semantics.specs.Semantics.{numbered};

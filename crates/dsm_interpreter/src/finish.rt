@@ -1,6 +1,6 @@
 //! What labelled steps leave.
 
-ghost use Rattle.std.specs.Prelude.{◌≡◌, map, drop, OnOk};
+ghost use Rattle.std.specs.Prelude.{◌≡◌, map, OnOk};
 ghost use Rattle.dsm_check.specs.Views.{view_function, view_part, view_statement};
 ghost use Rattle.dsm_semantics.specs.Semantics;
 ghost use Rattle.dsm_semantics.specs.Finished.{all_finished, finished, load_finished, store_finished, statement_finished};

@@ -1,6 +1,6 @@
 //! Where values are loaded from and stored to.
 
-ghost use Rattle.std.specs.Prelude.{◌≡◌, [], ◌∷◌, get_or, set, pos, ◌<◌, ◌^◌, None, OnOk, IfOk};
+ghost use Rattle.std.specs.Prelude.{◌≡◌, [], ◌∷◌, get_or, set, pos, ◌<◌, None, OnOk, IfOk};
 ghost use Rattle.dsm_check.specs.Views.{view_location};
 ghost use Rattle.dsm_semantics.specs.States.{member, load, store, top, below};
 ghost use Rattle.dsm_semantics.specs.Semantics.{reaching, loaded, load_at, store_at};

@@ -1,6 +1,6 @@
 //! Steps of a thread.
 
-ghost use Rattle.std.specs.Prelude.{◌≡◌, List, None, Some, IfOk, OnOk};
+ghost use Rattle.std.specs.Prelude.{List, None, Some, IfOk};
 ghost use Rattle.dsm_check.specs.Resolved as r;
 ghost use Rattle.dsm_semantics.specs.Semantics;
 ghost use Rattle.dsm_semantics.specs.Semantics.{step};

@@ -10,9 +10,7 @@ use crate::home::Home;
 use crate::layout::{LockCells, cells_of};
 use crate::mailbox::Mailbox;
 use crate::versions::zero_versions;
-use dsm_base::{
-    Ending, Label, MemFault, Numbers, Pieces, Proc, Rights, Setup, Task, pieces_of,
-};
+use dsm_base::{Ending, Label, MemFault, Numbers, Pieces, Proc, Rights, Setup, Task, pieces_of};
 use dsm_trace::{CellValues, Sends};
 use sqlite_items::Items;
 use std::alloc::Global;

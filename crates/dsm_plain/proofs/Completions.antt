@@ -1,7 +1,6 @@
 -- What a turn with a label leaves of the machine.
 use Rattle.std.proofs.Common.{◌≡◌, ℕ, ℤ, pos, ◌<◌, List, sym, ap, ◌∙◌, subst, map, length, get_or, set}
 use Rattle.dsm_base.specs.declared.label.Label.{Label}
-use Rattle.dsm_base.specs.declared.label.Want.{Want}
 use Rattle.dsm_base.specs.declared.rights.Rights.{Rights}
 use Rattle.dsm_base.specs.Family.{update, family_of}
 use Rattle.dsm_base.specs.Plain.{PlainState, plain_after, held_after, arrived_after, crossed_after, memory_after, versions_after}

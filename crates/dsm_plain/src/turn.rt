@@ -1,6 +1,6 @@
 //! The label of a turn, and what the turn leaves.
 
-ghost use Rattle.std.specs.Prelude.{◌≡◌, ◌<◌, ℕ, pos, length, OnOk, IfOk, IfSome};
+ghost use Rattle.std.specs.Prelude.{◌≡◌, ◌<◌, pos, length, OnOk, IfOk, IfSome};
 ghost use Rattle.dsm_base.specs.Access.{piece_of};
 ghost use Rattle.dsm_base.specs.Family.{family_of};
 ghost use Rattle.dsm_base.specs.Labels.{TakesLocks, WritesCells, PrintsLine};

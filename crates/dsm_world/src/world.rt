@@ -14,7 +14,8 @@ use crate::channels::Channels;
 use crate::copies::message_copy;
 use crate::lines::{Lines, lines_of};
 use dsm_base::{
-    Act, Finished, MemFault, Proc, Setup, Task, TaskMaker, Text, finished_where, is_ended, line_text,
+    Act, Finished, MemFault, Proc, Setup, Task, TaskMaker, Text, finished_where, is_ended,
+    line_text,
 };
 use dsm_node::{Node, Stepped};
 use dsm_trace::{Group, Letter, Msg, Rec, Records, Sends, Trace};

@@ -1,4 +1,4 @@
-use Rattle.std.proofs.Common.{◌≡◌, ◌∙◌, sym, subst, map}
+use Rattle.std.proofs.Common.{◌∙◌, sym, subst}
 use Rattle.dsm_check.specs.CheckedViews.{program_of}
 use Rattle.dsm_semantics.specs.Within.{AreFunctionsWithin, extent_in}
 use Rattle.dsm_semantics.proofs.Accepted.{functions_within}

@@ -13,7 +13,7 @@ turn-requires-clause-possible c =
     let p = c.args.proc.0 in
     let bar = c.args.bar.0 in
     let within = subst (λ n. p < n) (sym c.requires.whole.rights) c.requires.processor in
-    let epoch = c.crossings_at-epoch.ensures ∙ ap (λ s. crossed_of s bar) (sym (found_at (λ p. no_rights) plain.standings.items c.from.result p c.index.result.now c.index.ensures c.from.ensures within)) in
+    let epoch = c.crossings_at-epoch.ensures ∙ ap (λ s. crossed_of s bar) (sym (found_at (λ p. no_rights) plain.rights.items c.index.result p c.index-2.result.now c.index-2.ensures c.index.ensures within)) in
     let are = c.in_ok-missing.ensures ∙ ap (λ items. late (length items) (λ p. arrived_of (rights_at items p)) c.crossings_at-epoch.result bar) c.as_slice.ensures.value
     ∙ ap (λ n. late n arrived c.crossings_at-epoch.result bar) c.requires.whole.rights ∙ ap (λ e. late plain.setup.procs arrived e bar) epoch in
     cross_if_none arrived ((machine_of plain).crossed p bar) bar plain.setup.procs (sym are ∙ c.is_empty.ensures.0 c.if-is_empty.true)
@@ -25,7 +25,7 @@ returns-else-is_empty-clause-picked c =
     let p = c.args.proc.0 in
     let bar = c.args.bar.0 in
     let within = subst (λ n. p < n) (sym c.requires.whole.rights) c.requires.processor in
-    let epoch = c.crossings_at-epoch.ensures ∙ ap (λ s. crossed_of s bar) (sym (found_at (λ p. no_rights) plain.standings.items c.from.result p c.index.result.now c.index.ensures c.from.ensures within)) in
+    let epoch = c.crossings_at-epoch.ensures ∙ ap (λ s. crossed_of s bar) (sym (found_at (λ p. no_rights) plain.rights.items c.index.result p c.index-2.result.now c.index-2.ensures c.index.ensures within)) in
     let are = c.in_ok-missing.ensures ∙ ap (λ items. late (length items) (λ p. arrived_of (rights_at items p)) c.crossings_at-epoch.result bar) c.as_slice.ensures.value
     ∙ ap (λ n. late n arrived c.crossings_at-epoch.result bar) c.requires.whole.rights ∙ ap (λ e. late plain.setup.procs arrived e bar) epoch in
     let some : c.in_ok-missing.missing ≢ [] = λ none. true≢false (sym (c.is_empty.ensures.1 none) ∙ c.if-is_empty.false) in
