@@ -11,8 +11,8 @@ use Rattle.dsm_trace.specs.Told.{told_by}
 use Rattle.dsm_small.specs.Meaning.{small_semantics}
 use Rattle.dsm_world.specs.Lines.{lines_of}
 use Rattle.dsm_world.specs.World.{setup_of, groups_of, units_of, records_of}
-use Rattle.dsm_top.specs.Ended.{joined, lines_of_trace, TakesFront}
-use Rattle.dsm_top.specs.Runs.{SmallWorld, first_by, small_kind, first_in, FitsFirst, WroteCut}
+use Rattle.dsm_top.specs.Ended.{lines_of_trace, TakesFront}
+use Rattle.dsm_top.specs.Runs.{joined, SmallWorld, first_by, small_kind, first_in, FitsFirst, WroteCut}
 use Rattle.dsm_top.proofs.Pieces.{part_of, next_taken}
 use Rattle.dsm_top.proofs.Units.{next_unit, front_length, lines_of_unit}
 

@@ -1,5 +1,5 @@
 -- What a refusal leaves.
-use Rattle.std.specs.Prelude.{◌≡◌, ◌⊎◌, ℕ, true, false, if◌then◌else◌, List, [], reverse, Option, Some, None}
+use Rattle.std.specs.Prelude.{◌≡◌, ℕ, true, false, if◌then◌else◌, List, [], reverse, Option, Some, None}
 use Rattle.std.proofs.Common.{refl, sym, ap, ◌∙◌, subst, inl, inr}
 use Rattle.dsm_base.specs.Causes.{Rose, IfFailed}
 use Rattle.dsm_base.specs.declared.errors.ReadErr.{ReadErr}
@@ -91,11 +91,11 @@ abbrev untraced : Status → Report
 untraced status = record { status = status; trace = []; units = 0 }
 
 -- nothing ran: memory ran out before anything was written
-pub refused_silent : (given : Given) (before after : Option (List ℕ)) (faults_before faults_after : ℕ) (report : Report) → report ≡ record { status = Status.Memory; trace = []; units = 0 } → after ≡ before →
+pub refused_silent : (given : Given) (before after : Option (List ℕ)) (faults_before faults_after : ℕ) (report : Report) (status : Status) → report ≡ record { status = status; trace = []; units = 0 } → status ≡ Status.Memory → after ≡ before →
     Refused given record { before = before; after = after; faults_before = faults_before; faults_after = faults_after; trace = reverse report.trace; units = report.units } report.status
-refused_silent given before after faults_before faults_after report is nothing =
-    subst (λ (one : Report). Refused given record { before = before; after = after; faults_before = faults_before; faults_after = faults_after; trace = reverse one.trace; units = one.units } one.status) (sym is)
-    record { no_trace = refl; no_units = refl; refused = inr record { is_memory = refl; nothing = nothing } }
+refused_silent given before after faults_before faults_after report status made is nothing =
+    subst (λ (one : Report). Refused given record { before = before; after = after; faults_before = faults_before; faults_after = faults_after; trace = reverse one.trace; units = one.units } one.status) (sym made)
+    record { no_trace = refl; no_units = refl; refused = inr record { is_memory = is; nothing = nothing } }
 
 -- nothing ran, and this line was put
 module _ (given : Given) (before after : Option (List ℕ)) (faults_before faults_after : ℕ) (status : Status) (not_memory : status ≡ Status.Memory → ⊥) (is : RefusesOrMemory given status)
@@ -140,6 +140,9 @@ ended_run given prepared left status two is ran = inr (command_run given prepare
 command_check : (given : Given) (left : Left) (status : Status) (command : Option Command) → IsPrepared given.files command Prepared.Check → left.trace ≡ [] → left.units ≡ 0 → Tells ok_line Status.Done left status → EndedCommand given left status command
 command_check given left status (Some (check program procs)) is no_trace no_units checked =
     record { found = is.0; accepted = is.1; no_trace = no_trace; no_units = no_units; tells = checked }
+command_check given left status (Some (run program schedule true state)) is no_trace no_units checked = absurd is
+command_check given left status (Some (run program schedule false true)) is no_trace no_units checked = absurd is
+command_check given left status (Some (run program schedule false false)) is no_trace no_units checked = absurd is
 command_check given left status _ is no_trace no_units checked = absurd is
 
 pub ended_check : (given : Given) (left : Left) (status : Status) → IsPrepared given.files given.command Prepared.Check → left.trace ≡ [] → left.units ≡ 0 → Tells ok_line Status.Done left status → Ended given left status
@@ -156,6 +159,9 @@ command_plain given prepared left status (Some (plain program picks)) is no_trac
   no_trace = no_trace;
   ran = ran;
 }
+command_plain given prepared left status (Some (run program schedule true state)) is no_trace ran = absurd is
+command_plain given prepared left status (Some (run program schedule false true)) is no_trace ran = absurd is
+command_plain given prepared left status (Some (run program schedule false false)) is no_trace ran = absurd is
 command_plain given prepared left status _ is no_trace ran = absurd is
 
 -- memory ran out before the first pick, or picks were applied

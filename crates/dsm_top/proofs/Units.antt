@@ -22,7 +22,8 @@ use Rattle.dsm_trace.specs.Fits.{with_unit}
 use Rattle.dsm_trace.specs.History.{turns_onto, history}
 use Rattle.dsm_trace.proofs.Numbered.{all_push}
 use Rattle.dsm_world.specs.Lines.{lines_of}
-use Rattle.dsm_top.specs.Ended.{joined, lines_of_trace}
+use Rattle.dsm_top.specs.Ended.{lines_of_trace}
+use Rattle.dsm_top.specs.Runs.{joined}
 
 -- Fronts.
 
@@ -91,6 +92,7 @@ unit_prints : {S : Type 0} → (setup : Setup) (threads : Semantics S) (t : Told
     printed_lines (turns_onto before (unit_records setup threads t act)) ≡ printed_lines before ++ joined (lines_of (unit_records setup threads t act))
 unit_prints setup threads t (Act.Step p) before = step_prints setup threads t p.0 (own_turn setup threads p.0 (t.processors p.0)) before
 unit_prints setup threads t (Act.Deliver p q) before = delivery_prints t q.0 (t.under_way p.0 q.0) before
+unit_prints setup threads t _ before = sym (append-nil (printed_lines before))
 
 next_history : (unit : ℕ) (records : List Rec) (before : List Group) → history (with_unit unit records before) ≡ turns_onto (history before) records
 next_history unit [] before = refl

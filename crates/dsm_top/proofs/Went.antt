@@ -1,6 +1,6 @@
 -- How far a run came, by its status.
 use Rattle.std.specs.Prelude.{◌≡◌, ℕ, List}
-use Rattle.std.proofs.Common.{ap, sym, ◌∙◌, subst}
+use Rattle.std.proofs.Common.{ap, sym, subst}
 use Rattle.dsm_base.specs.Sink.{appended}
 use Rattle.dsm_base.specs.declared.finished.Finished.{Finished}
 use Rattle.dsm_top.specs.declared.status.Status.{Status}

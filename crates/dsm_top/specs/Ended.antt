@@ -88,17 +88,18 @@ Tells line due left status = (status ≡ due) × Whole left line
 
 -- it went through all its units, so many; all its lines are written, and the status tells how its
 -- threads stand
-pub record WentThrough (units : ℕ) (finished : Finished) (lines : List ℕ) (left : Left) (status : Status) : Type 0 where
+pub record WentThrough (units : ℕ) (threads : Finished) (lines : List ℕ) (left : Left) (status : Status) :
+    Type 0 where
   pub all : left.units ≡ units
-  pub stands : status ≡ status_of_finished finished
+  pub stands : status ≡ status_of_finished threads
   pub wrote : Whole left lines
 
 -- it went through, or was cut short: by the sink, which has a proper part of the lines so far, or by
 -- memory, with a front of them
 abbrev pub Went : ℕ → Finished → List ℕ → Left → Status → Type 0
-Went units finished lines left Status.WriteFault = Cut left lines
-Went units finished lines left Status.Memory = Front left lines
-Went units finished lines left status = WentThrough units finished lines left status
+Went units threads lines left Status.WriteFault = Cut left lines
+Went units threads lines left Status.Memory = Front left lines
+Went units threads lines left status = WentThrough units threads lines left status
 
 -- `run`.
 

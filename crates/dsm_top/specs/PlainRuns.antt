@@ -1,5 +1,5 @@
 -- What a run by picks in the code shows.
-use Rattle.std.specs.Prelude.{◌≡◌, ◌⊎◌, ℕ, List}
+use Rattle.std.specs.Prelude.{◌≡◌, ◌⊎◌, List}
 use Rattle.dsm_base.specs.declared.names.Proc.{Proc}
 use Rattle.dsm_base.specs.declared.setup.Setup.{Setup}
 use Rattle.dsm_base.specs.Plain.{Turn, after_run}

@@ -1,5 +1,5 @@
 -- Worlds of small programs, and what is written of them.
-use Rattle.std.specs.Prelude.{◌≡◌, ℕ, List, take, reverse, Option}
+use Rattle.std.specs.Prelude.{◌≡◌, ℕ, List, [], ◌∷◌, ◌++◌, take, reverse, Option}
 use Rattle.dsm_base.specs.declared.act.Act.{Act}
 use Rattle.dsm_base.specs.declared.errors.ReadErr.{ReadErr}
 use Rattle.dsm_base.specs.Sink.{TakesPart}
@@ -37,6 +37,11 @@ first_in world = first_of first_by world
 abbrev pub FitsFirst : SmallWorld → List Act → Type 0
 FitsFirst world schedule = FitsUnits (setup_of world) (first_in world) small_semantics
     (reverse (take (units_of world) schedule)) (groups_of world)
+
+-- lines one after the other
+abbrev pub joined : List (List ℕ) → List ℕ
+joined [] = []
+joined (line ∷ lines) = line ++ joined lines
 
 -- another state of the same world
 pub record IsSameRun (old new : SmallWorld) : Type 0 where

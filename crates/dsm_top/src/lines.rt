@@ -3,7 +3,7 @@
 ghost use Rattle.std.specs.Prelude.{◌≡◌, OnOk, OnErr};
 ghost use Rattle.dsm_base.specs.Causes.{HasCause};
 ghost use Rattle.dsm_base.specs.Sink.{appended, TakesPart};
-ghost use Rattle.dsm_top.specs.Ended.{joined};
+ghost use Rattle.dsm_top.specs.Runs.{joined};
 
 use crate::output::put_all;
 use dsm_base::{PrintedLines, ReadErr, Sink};

@@ -1,6 +1,6 @@
 //! What stands before a run: programs, schedules and lists of picks from their files.
 
-ghost use Rattle.std.specs.Prelude.{◌≡◌, Some, Ok, string_bytes, IfOk, IfErr, MatchResult};
+ghost use Rattle.std.specs.Prelude.{◌≡◌, ◌||◌, true, false, Some, Ok, string_bytes, IfOk, IfErr, MatchResult};
 ghost use Rattle.dsm_check.specs.CheckedViews.{program_of};
 ghost use Rattle.dsm_check.specs.Setups.{fitting};
 ghost use Rattle.dsm_top.specs.Accepted.{IsText, HasProgram, HasSchedule, IsAccepted, HasChecked, HasFitting, HasPicks};
@@ -127,6 +127,17 @@ fn test_owners(program: &Checked, procs: u8) -> Result<(), Status>
     fit(program, procs).map_err(Status::ProgramRefused)
 }
 
+/// `run` has no flag that is built yet.
+fn test_flags(trace: bool, state: bool) -> Result<(), Status>
+    ensures { MatchResult result (λ _. (trace || state) ≡ false)
+        (λ status. ((trace || state) ≡ true) × (status ≡ Status.WordsRefused)) }
+{
+    if trace || state {
+        return Err(Status::WordsRefused);
+    }
+    Ok(())
+}
+
 /// Reads the program and the schedule of `run`.
 fn prepare_run<F: Files>(
     alloc: Global,
@@ -203,9 +214,12 @@ pub(crate) fn prepare<F: Files>(
         Command::Run {
             program,
             schedule,
-            trace: false,
-            state: false,
-        } => Ok(Prepared::Run(prepare_run(alloc, program, schedule, files)?)),
+            trace,
+            state,
+        } => {
+            test_flags(*trace, *state)?;
+            Ok(Prepared::Run(prepare_run(alloc, program, schedule, files)?))
+        }
         Command::Check { program, procs } => {
             prepare_check(alloc, program, *procs, files)?;
             Ok(Prepared::Check)
@@ -213,6 +227,6 @@ pub(crate) fn prepare<F: Files>(
         Command::Plain { program, picks } => {
             Ok(Prepared::Plain(prepare_plain(alloc, program, picks, files)?))
         }
-        Command::Run { .. } | Command::Load { .. } => Err(Status::WordsRefused),
+        Command::Load { .. } => Err(Status::WordsRefused),
     }
 }

@@ -1,7 +1,7 @@
 use Rattle.std.proofs.Common.{◌≡◌, ◌++◌, ◌∷◌, ◌+◌, drop, sym, ap, ◌∙◌, arith, append_assoc, subst}
 use Rattle.std.proofs.lemmas.Result.{err_from_is_err_and}
 use Rattle.dsm_base.specs.Sink.{TakesPart}
-use Rattle.dsm_top.specs.Ended.{joined}
+use Rattle.dsm_top.specs.Runs.{joined}
 use Rattle.dsm_top.proofs.Faults.{cause_before}
 use Rattle.dsm_top.proofs.Pieces.{part_of, drop_at, next_taken}
 use Rattle.dsm_top.proofs.lines.put_lines.Goals as goal

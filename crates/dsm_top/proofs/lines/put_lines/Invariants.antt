@@ -1,6 +1,6 @@
 use Rattle.std.proofs.Common.{◌≡◌, ◌++◌, ◌≤◌, drop, List, ℕ}
 use Rattle.dsm_base.specs.Sink.{appended}
-use Rattle.dsm_top.specs.Ended.{joined}
+use Rattle.dsm_top.specs.Runs.{joined}
 use Rattle.dsm_top.proofs.lines.put_lines.Given as goal
 
 -- the bytes so far were taken, those of the lines that are left come next, and no call has failed

@@ -1,5 +1,6 @@
-use Rattle.std.proofs.Common.{string_bytes}
+use Rattle.std.proofs.Common.{string_bytes, subst}
 use Rattle.std.proofs.lemmas.Result.{err_from_is_err_and}
+use Rattle.dsm_top.specs.Accepted.{IsProgram}
 use Rattle.dsm_top.proofs.Parts.{unread_small}
 use Rattle.dsm_top.proofs.Programs.{refuses_small}
 use Rattle.dsm_top.proofs.prepare.small_of.Goals as goal
@@ -14,3 +15,10 @@ returns-in_err-read_program-clause-refused g c =
     let p = err_from_is_err_and c.from_residual-in_err-read_program.result c.from_residual-in_err-read_program.ensures.1 in
     rw (p.1, p.2)
     (refuses_small record { files = g.F.Files.files_hold c.args.files.now; before = g.F.Files.files_faults c.args.files.now; after = g.F.Files.files_faults c.read_text.new.files } (string_bytes c.args.name.now) c.as_slice.result.now c.in_ok-text.text.items c.as_slice.ensures.value c.in_err-read_program.field-0.0 c.in_ok-text.ensures.text c.in_err-read_program.ensures)
+
+pub returns-clause-program : goal.returns-clause-program
+returns-clause-program g c = record {
+  text = c.in_ok-text.text.items;
+  is_read = c.in_ok-text.ensures.text;
+  is_program = subst (λ text. IsProgram text c.in_ok-read_program.field-0) c.as_slice.ensures.value c.in_ok-read_program.ensures;
+}

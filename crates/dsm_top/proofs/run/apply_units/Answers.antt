@@ -1,9 +1,9 @@
-use Rattle.std.proofs.Common.{ap, sym, ◌∙◌, ◌+◌, ◌≡◌, arith, subst, slice_get, Some}
+use Rattle.std.proofs.Common.{ap, sym, ◌∙◌, arith}
 use Rattle.std.proofs.lemmas.Result.{err_from_is_err_and}
 use Rattle.dsm_base.specs.declared.setup.Setup.{Setup}
 use Rattle.dsm_base.specs.Sink.{appended}
 use Rattle.dsm_sched.specs.ScheduleTexts.{units_of as acts_of}
-use Rattle.dsm_world.specs.World.{groups_of, units_of}
+use Rattle.dsm_world.specs.World.{setup_of, groups_of}
 use Rattle.dsm_top.specs.Ended.{lines_of_trace}
 use Rattle.dsm_top.proofs.Applied.{front_whole, wrote_next, wrote_part, fits_next}
 use Rattle.dsm_top.proofs.Picked.{pick_at, pick_past}
@@ -13,7 +13,7 @@ use Rattle.dsm_top.proofs.run.apply_units.Goals as goal
 pub apply-requires-clause-act : goal.apply-requires-clause-act
 apply-requires-clause-act g c =
     let same = ap (λ (s : Setup). s.procs) c.acts.invariant.same.setup ∙ c.requires.procs in
-    act_within _ c.args.schedule.now.procs c.in-Some.act same c.in-Some.ensures.within
+    act_within (setup_of c.acts.world) c.args.schedule.now.procs c.in-Some.act same c.in-Some.ensures.within
 
 pub returns-in_err-lines-clause-cut : goal.returns-in_err-lines-clause-cut
 returns-in_err-lines-clause-cut g c =
@@ -26,6 +26,12 @@ returns-in_err-put_lines-clause-cut g c =
     let p = err_from_is_err_and c.from_residual-in_err-put_lines.result c.from_residual-in_err-put_lines.ensures.1 in
     rw (p.1) (wrote_part c.acts.world c.apply.new.self c.in-Some.act c.in_ok-lines.ensures.trace (g.K.Sink.sink_holds c.args.out.now) (g.K.Sink.sink_holds c.acts.out) (g.K.Sink.sink_holds c.put_lines.new.out) c.in_ok-lines.lines p.0
     c.in_ok-lines.ensures.lines c.acts.invariant.wrote c.in_err-put_lines.ensures.part)
+
+pub returns-in_err-put_lines-clause-fits : goal.returns-in_err-put_lines-clause-fits
+returns-in_err-put_lines-clause-fits g c =
+    let units = acts_of c.args.schedule.now in
+    let here = pick_at units c.units.result c.in-Some.act c.in-Some.ensures.unit in
+    fits_next c.acts.world c.apply.new.self c.in-Some.act c.in_ok-lines.ensures.trace units c.units.result (sym c.units.ensures) here.1 here.0 c.in_ok-lines.ensures.units c.apply.ensures.setup c.apply.ensures.first c.acts.invariant.fits
 
 pub acts-smaller : goal.acts-smaller
 acts-smaller g c =

@@ -1,4 +1,4 @@
-use Rattle.std.proofs.Common.{◌≡◌, ◌∙◌, ap, sym, refl, reverse}
+use Rattle.std.proofs.Common.{◌∙◌, ap, sym, refl, reverse}
 use Rattle.dsm_base.specs.declared.setup.Setup.{Setup}
 use Rattle.dsm_sched.specs.ScheduleTexts.{units_of as acts_of}
 use Rattle.dsm_small.specs.Setups.{small_setup}

@@ -1,4 +1,4 @@
-use Rattle.std.proofs.Common.{◌∙◌, ◌+◌, ap, refl}
+use Rattle.std.proofs.Common.{◌∙◌, ◌+◌, ap}
 use Rattle.dsm_check.specs.CheckedViews.{program_of}
 use Rattle.dsm_plain.specs.Machine.{machine_of, semantics_of}
 use Rattle.dsm_top.specs.declared.plain.PlainRun.{PlainRun}
@@ -33,5 +33,5 @@ returns-clause-line c program setup turns at =
           rw w.line-is (line_turn program setup old new turns c.args.proc at same_program same_setup w.in-Did.label w.in_ok-line-in-Did.line turn.0 w.in_ok-line-in-Did.ensures)
       | in_default w ↦
           let none = no_turn old.machine.setup (semantics_of old.machine) (machine_of old.machine) c.args.proc.0 (machine_of c.pick.new.self) c.in_ok-label.field-0 w.in_default.not-Did c.in_ok-label.ensures.picked in
-          rw w.line-is (line_none program setup old new turns c.args.proc at same_program same_setup w.from_vec-line.result none.0 ?)
+          rw w.line-is (line_none program setup old new turns c.args.proc at same_program same_setup w.from_vec-line.result none.0 (w.from_vec-line.ensures ∙ w.new.ensures.items))
     ]
