@@ -2,6 +2,7 @@
 //! them with stamps.
 #![tactic(auto)]
 
+mod bits;
 mod list;
 
 pub use list::{Line, LineList, LineValues};
