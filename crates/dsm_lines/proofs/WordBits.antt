@@ -32,19 +32,21 @@ word_replaced words at word b within here others k j =
           ])
     ] k
 
-pub bit_is_set : (words : List ℕ) (at : ℕ) → at / 64 < length words
-    → is_bit (set words (at / 64) (bit_or (get_or words (at / 64) 0) (1 * 2 ^ (at % 64) % 2 ^ 64))) ≡ update (is_bit words) at true
-bit_is_set words at within =
-    word_replaced words at _ true within
-    (ap (λ n. n == 1) (bit_at_set_same w64 (get_or words (at / 64) 0) (at % 64) (omega arith)))
-    (λ i fits differs. bit_at_set_other w64 (get_or words (at / 64) 0) (at % 64) (omega arith) i differs)
+pub bit_is_set : (words read words' : List ℕ) (at : ℕ) → at / 64 < length words → read ≡ words → words' ≡ set words (at / 64) (bit_or (get_or read (at / 64) 0) (1 * 2 ^ (at % 64) % 2 ^ 64))
+    → is_bit words' ≡ update (is_bit words) at true
+bit_is_set words read words' at within same is =
+    ap is_bit (is ∙ ap (λ ws. set words (at / 64) (bit_or (get_or ws (at / 64) 0) (1 * 2 ^ (at % 64) % 2 ^ 64))) same)
+    ∙ word_replaced words at _ true within
+      (ap (λ n. n == 1) (bit_at_set_same w64 (get_or words (at / 64) 0) (at % 64) (omega arith)))
+      (λ i fits differs. bit_at_set_other w64 (get_or words (at / 64) 0) (at % 64) (omega arith) i differs)
 
-pub bit_is_clear : (words : List ℕ) (at : ℕ) → at / 64 < length words
-    → is_bit (set words (at / 64) (bit_and (get_or words (at / 64) 0) (bit_not w64 (1 * 2 ^ (at % 64) % 2 ^ 64)))) ≡ update (is_bit words) at false
-bit_is_clear words at within =
-    word_replaced words at _ false within
-    (ap (λ n. n == 1) (bit_at_clear_same w64 (get_or words (at / 64) 0) (at % 64) (omega arith)))
-    (λ i fits differs. bit_at_clear_other w64 (get_or words (at / 64) 0) (at % 64) (omega arith) i fits differs)
+pub bit_is_clear : (words read words' : List ℕ) (at : ℕ) → at / 64 < length words → read ≡ words → words' ≡ set words (at / 64) (bit_and (get_or read (at / 64) 0) (bit_not w64 (1 * 2 ^ (at % 64) % 2 ^ 64)))
+    → is_bit words' ≡ update (is_bit words) at false
+bit_is_clear words read words' at within same is =
+    ap is_bit (is ∙ ap (λ ws. set words (at / 64) (bit_and (get_or ws (at / 64) 0) (bit_not w64 (1 * 2 ^ (at % 64) % 2 ^ 64)))) same)
+    ∙ word_replaced words at _ false within
+      (ap (λ n. n == 1) (bit_at_clear_same w64 (get_or words (at / 64) 0) (at % 64) (omega arith)))
+      (λ i fits differs. bit_at_clear_other w64 (get_or words (at / 64) 0) (at % 64) (omega arith) i fits differs)
 
 -- the bits of a word from a place on
 bit_behind : (word from at : ℕ) → from ≤ at → is_bit_of word at ≡ is_bit_of (word / 2 ^ from) (at - from)

@@ -1,2 +1,8 @@
 pub mod LineLists
+pub mod Places
+pub mod Building
+pub mod Tables
+pub mod Memories
 pub mod Bits
+pub mod Marking
+pub mod Marks

@@ -1,8 +1,10 @@
 //! Bits in words of 64.
 
-ghost use Rattle.std.specs.Prelude.{◌≡◌, ◌≢◌, ℕ, ◌*◌, ◌/◌, ◌^◌, ◌<◌, true, false, length, slice_index, IfSome};
+ghost use Rattle.std.specs.Prelude.{◌≡◌, ◌≢◌, ℕ, ◌*◌, ◌/◌, ◌^◌, ◌<◌, true, false, length, slice_index, IfSome, IfNone};
 ghost use Rattle.dsm_base.specs.Family.{update};
 ghost use Rattle.dsm_lines.specs.Bits.{is_bit, is_bit_of, IsFirst};
+
+use sqlite_items::Items;
 
 /// Whether a bit is set.
 pub fn has_bit(words: &[u64], at: usize) -> bool
@@ -15,28 +17,33 @@ pub fn has_bit(words: &[u64], at: usize) -> bool
 }
 
 /// Sets one bit.
-pub fn set_bit(words: &mut [u64], at: usize)
+pub fn set_bit(words: &mut Items<u64>, at: usize)
     requires { at / 64 < length words.old }
     ensures bits { is_bit words.new ≡ update (is_bit words.old) at true }
     ensures others { (word : ℕ) → word ≢ at / 64 → slice_index words.new word ≡ slice_index words.old word }
+    ensures length { length words.new ≡ length words.old }
 {
-    words[at / 64] |= 1 << (at % 64);
+    let word = words.as_slice()[at / 64];
+    words.set(at / 64, word | (1 << (at % 64)));
 }
 
 /// Clears one bit.
-pub fn clear_bit(words: &mut [u64], at: usize)
+pub fn clear_bit(words: &mut Items<u64>, at: usize)
     requires { at / 64 < length words.old }
     ensures bits { is_bit words.new ≡ update (is_bit words.old) at false }
     ensures others { (word : ℕ) → word ≢ at / 64 → slice_index words.new word ≡ slice_index words.old word }
+    ensures length { length words.new ≡ length words.old }
 {
-    words[at / 64] &= !(1 << (at % 64));
+    let word = words.as_slice()[at / 64];
+    words.set(at / 64, word & !(1 << (at % 64)));
 }
 
 /// The first set bit of a word from this one on.
-fn first_of_word(word: u64, from: usize) -> Option<usize>
+pub fn first_of_word(word: u64, from: usize) -> Option<usize>
     requires { from < 64 }
     ensures first { IsFirst (is_bit_of word) from result }
     ensures below { IfSome result (λ bit. bit < 64) }
+    ensures none { IfNone result (word / 2 ^ from ≡ 0) }
 {
     let rest = word >> from;
     if rest == 0 {

@@ -4,5 +4,11 @@
 
 mod bits;
 mod list;
+mod marks;
+mod place;
+mod table;
 
 pub use list::{Line, LineList, LineValues};
+pub use marks::{DirtyBits, LineNumbers};
+pub use place::{Place, Span};
+pub use table::BindTable;
