@@ -63,15 +63,14 @@ fn note_piece(places: &mut Places, piece: Piece, start: u32)
 }
 
 /// The place of each cell.
-fn places_of(alloc: Global, pieces: &[Piece], cells: usize, lines: u32) -> Result<Places, MemFault>
+fn places_of(alloc: Global, pieces: &[Piece], cells: usize, total: u32) -> Result<Places, MemFault>
     requires within { AreWithin cells pieces.now }
     requires small { cells ≤ 65536 }
-    requires few { lines < 2 ^ 32 }
-    requires all { lines ≡ lines pieces.now }
+    requires all { total ≡ lines pieces.now }
     ensures { IfOk result (λ places. (cell : ℕ) → slice_index_or places cell None ≡ place_of pieces.now cell) }
 {
     let mut places = Items::from_vec(vec![in alloc; None; cells]?);
-    let mut start = lines;
+    let mut start = total;
     for at in (0..pieces.len()).rev() {
         start -= line_count(pieces[at]);
         note_piece(&mut places, pieces[at], start);
@@ -85,7 +84,7 @@ fn push_widths(widths: &mut Items<u8>, piece: Piece) -> Result<(), MemFault>
     ensures { OnOk result (widths.new ≡ widths.old ++ piece_widths piece) }
 {
     for line in 0..line_count(piece) {
-        widths.push((piece.count - 8 * line).min(8) as u8)?;
+        widths.push(8u32.min(piece.count - 8 * line) as u8)?;
     }
     Ok(())
 }
