@@ -1,12 +1,12 @@
 -- A mark made or taken away keeps the words and their summary together; the first mark from a place on.
 use Rattle.std.proofs.Common.{◌≡◌, ◌≢◌, ℕ, zero, suc, replicate, ◌+◌, ◌*◌, ◌/◌, ◌%◌, ◌^◌, ◌<◌, ◌≤◌, Bool, true, false, not, List, length, get_or, refl, sym, ap, ◌∙◌, inl, inr, arith, Option, Some, None}
-use Rattle.std.specs.Prelude.{◌==◌, if◌then◌else◌}
+use Rattle.std.specs.Prelude.{◌==◌}
 use Rattle.std.proofs.lemmas.Bool.{cases_lt, false≢true}
 use Rattle.std.proofs.lemmas.Bool.Decides.{eqb_tells}
 use Rattle.std.proofs.lemmas.List.{get_or_past}
 use Rattle.std.proofs.lemmas.Nat.Bits.{bit_at-zero}
 use Rattle.dsm_base.specs.Family.{update}
-use Rattle.dsm_lines.specs.Bits.{is_bit, is_bit_of, IsFirst, IsSummary}
+use Rattle.dsm_lines.specs.Bits.{is_bit, is_bit_of, IsFirst}
 use Rattle.dsm_lines.specs.Marking.{IsMarking}
 
 -- the family with one member replaced, at that member and at the others
@@ -36,16 +36,16 @@ marked lines words summary words' summary' line kept within bits others long pag
       groups = omega (arith, kept.groups);
       within = λ at behind. ap (λ f. f at) bits ∙ update_other (is_bit words) line true at (omega arith) ∙ kept.within at behind;
       agrees = λ word. elim (eqb_tells word (line / 64)) as (λ _. is_bit summary' word ≡ not (get_or words' word 0 == 0)) [
-            | inl (_, is) ↦
-                ap (λ f. f word) page
-                ∙ update_same (is_bit summary) (line / 64) true word is
-                ∙ sym (ap (λ n. not (get_or words' n 0 == 0)) is ∙ not_zero (get_or words' (line / 64) 0) (line % 64) (ap (λ f. f line) bits ∙ update_same (is_bit words) line true line refl))
-            | inr (_, differs) ↦
-                ap (λ f. f word) page
-                ∙ update_other (is_bit summary) (line / 64) true word differs
-                ∙ kept.agrees word
-                ∙ ap (λ n. not (n == 0)) (sym (others word differs))
-          ];
+        | inl (_, is) ↦
+            ap (λ f. f word) page
+            ∙ update_same (is_bit summary) (line / 64) true word is
+            ∙ sym (ap (λ n. not (get_or words' n 0 == 0)) is ∙ not_zero (get_or words' (line / 64) 0) (line % 64) (ap (λ f. f line) bits ∙ update_same (is_bit words) line true line refl))
+        | inr (_, differs) ↦
+            ap (λ f. f word) page
+            ∙ update_other (is_bit summary) (line / 64) true word differs
+            ∙ kept.agrees word
+            ∙ ap (λ n. not (n == 0)) (sym (others word differs))
+      ];
     }
 
 -- a marked line is marked no longer
@@ -59,9 +59,9 @@ unmarked lines words summary words' summary' line kept bits others long page pag
       groups = omega (arith, kept.groups);
       within = λ at behind. ap (λ f. f at) bits ∙ cleared at (kept.within at behind);
       agrees = λ word. elim (eqb_tells word (line / 64)) as (λ _. is_bit summary' word ≡ not (get_or words' word 0 == 0)) [
-            | inl (_, is) ↦ ap (is_bit summary') is ∙ page ∙ ap (λ n. not (get_or words' n 0 == 0)) (sym is)
-            | inr (_, differs) ↦ pages word differs ∙ kept.agrees word ∙ ap (λ n. not (n == 0)) (sym (others word differs))
-          ];
+        | inl (_, is) ↦ ap (is_bit summary') is ∙ page ∙ ap (λ n. not (get_or words' n 0 == 0)) (sym is)
+        | inr (_, differs) ↦ pages word differs ∙ kept.agrees word ∙ ap (λ n. not (n == 0)) (sym (others word differs))
+      ];
     }
   where
     cleared : (at : ℕ) → is_bit words at ≡ false → update (is_bit words) line false at ≡ false
@@ -143,10 +143,13 @@ first_behind_page lines words summary page next bit kept below later mark = (ome
   where
     at_page : (64 * next + bit) / 64 ≡ next
     at_page = omega arith
+
     at_bit : (64 * next + bit) % 64 ≡ bit
     at_bit = omega arith
+
     is_set : is_bit words (64 * next + bit) ≡ is_bit_of (get_or words next 0) bit
     is_set = λ i. is_bit_of (get_or words (at_page i) 0) (at_bit i)
+
     none_before : (at : ℕ) → 64 * (page + 1) ≤ at → at < 64 * next + bit → is_bit words at ≡ false
     none_before at behind before =
         elim (eqb_tells (at / 64) next) as (λ _. is_bit words at ≡ false) [
@@ -178,10 +181,13 @@ first_in_page words from bit below mark = (omega (arith, mark.0), is_set ∙ mar
   where
     at_page : (64 * (from / 64) + bit) / 64 ≡ from / 64
     at_page = omega arith
+
     at_bit : (64 * (from / 64) + bit) % 64 ≡ bit
     at_bit = omega arith
+
     is_set : is_bit words (64 * (from / 64) + bit) ≡ is_bit_of (get_or words (from / 64) 0) bit
     is_set = λ i. is_bit_of (get_or words (at_page i) 0) (at_bit i)
+
     none_before : (at : ℕ) → from ≤ at → at < 64 * (from / 64) + bit → is_bit words at ≡ false
     none_before at behind before =
         let same : at / 64 ≡ from / 64 = omega arith in
@@ -195,5 +201,6 @@ no_bits n = λ k at. clear at k
     zero_at zero at = refl
     zero_at (suc n) zero = refl
     zero_at (suc n) (suc at) = zero_at n at
+
     clear : (at : ℕ) → is_bit (replicate {A = ℕ} n 0) at ≡ false
     clear at = ap (λ word. is_bit_of word (at % 64)) (zero_at n (at / 64)) ∙ ap (λ n. n == 1) (bit_at-zero (at % 64))

@@ -1,16 +1,15 @@
 -- Pieces that are apart: no cell is in two of them, so they have no more lines than there are cells.
-use Rattle.std.proofs.Common.{◌≡◌, ℕ, zero, suc, ◌+◌, ◌-◌, ◌*◌, ◌/◌, ◌^◌, ◌<◌, ◌≤◌, Bool, true, false, List, [], ◌∷◌, ◌++◌, length, get_or, take, drop, refl, sym, ap, ◌∙◌, arith, subst, inl, inr, Option, Some, None, ◌⊎◌, map}
+use Rattle.std.proofs.Common.{◌≡◌, ℕ, zero, suc, ◌+◌, ◌-◌, ◌*◌, ◌/◌, ◌≤◌, Bool, true, false, List, [], ◌∷◌, ◌++◌, length, get_or, refl, sym, ap, ◌∙◌, arith, subst, inl, inr, Option, Some, None, ◌⊎◌, map}
 use Rattle.std.specs.Prelude.{◌&&◌, ◌==◌, nat_lt, nat_le, min, max, if◌then◌else◌}
 use Rattle.std.specs.List.{list_all, All, AllByRecursion}
-use Rattle.std.specs.Option.{is_some}
 use Rattle.std.proofs.lemmas.Bool.{cases_lt}
 use Rattle.std.proofs.lemmas.Bool.Decides.{nat_tests}
 use Rattle.std.proofs.lemmas.Grind.{common_steps}
-use Rattle.std.proofs.lemmas.List.Elements.{All-head, All-tail, All-from_recursion, All-weaker}
+use Rattle.std.proofs.lemmas.List.Elements.{All-from_recursion, All-weaker}
 use Rattle.dsm_base.specs.declared.setup.Piece.{Piece}
 use Rattle.dsm_base.specs.declared.setup.Setup.{Setup}
 use Rattle.dsm_base.specs.Access.{has_cell, piece_of}
-use Rattle.dsm_base.specs.Setups.{are_counts, is_piece, is_apart, are_apart, end_of, is_setup}
+use Rattle.dsm_base.specs.Setups.{are_counts, is_piece, is_apart, are_apart, end_of}
 use Rattle.dsm_base.proofs.Setups.{pieces_within}
 use Rattle.dsm_lines.specs.Building.{AreWithin}
 use Rattle.dsm_base.specs.Setups.{is_bound}
@@ -77,7 +76,7 @@ covered_more piece others zero apart = omega arith
 covered_more piece others (suc n) apart =
     let before = covered_more piece others n apart in
     elim (is_or_not (has_cell n piece)) as
-        (λ _. covered (piece ∷ others) n + one_of (piece_of (piece ∷ others) n) ≡ (min (suc n) (piece.first.0 + piece.count) - min (suc n) piece.first.0) + (covered others n + one_of (piece_of others n))) [
+    (λ _. covered (piece ∷ others) n + one_of (piece_of (piece ∷ others) n) ≡ (min (suc n) (piece.first.0 + piece.count) - min (suc n) piece.first.0) + (covered others n + one_of (piece_of others n))) [
       | inl has ↦
           let own : one_of (piece_of (piece ∷ others) n) ≡ 1 = ap (λ b. one_of (if b then Some piece else piece_of others n)) has in
           let theirs : one_of (piece_of others n) ≡ 0 = ap one_of (in_no_other piece others n apart has) in
@@ -140,6 +139,7 @@ no_lock locks bars start lock (piece ∷ others) cells bound past =
   where
     over : (number : ℕ) (a b c : Bool) → (nat_lt number locks && a && b && c) ≡ true → (number == lock) ≡ false
     over number a b c h = grind (arith, nat_tests, common_steps)
+
     differs : (object : Object) → is_bound locks bars piece object ≡ true → same_object object (Object.Lock record { 0 = lock }) ≡ false
     differs (Object.Lock number) h = over number.0 _ _ _ h
     differs (Object.Bar number) h = refl
@@ -152,6 +152,7 @@ no_bar locks bars start bar (piece ∷ others) cells bound past =
   where
     over : (number : ℕ) (a : Bool) → (nat_lt number bars && a) ≡ true → (number == bar) ≡ false
     over number a h = grind (arith, nat_tests, common_steps)
+
     differs : (object : Object) → is_bound locks bars piece object ≡ true → same_object object (Object.Bar record { 0 = bar }) ≡ false
     differs (Object.Lock number) h = refl
     differs (Object.Bar number) h = over number.0 _ h

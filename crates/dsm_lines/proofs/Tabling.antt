@@ -1,6 +1,6 @@
 -- Places, widths and spans of pieces, one piece more at a time.
-use Rattle.std.proofs.Common.{◌≡◌, ℕ, zero, suc, ◌+◌, ◌-◌, ◌*◌, ◌/◌, ◌%◌, ◌<◌, ◌≤◌, Bool, true, false, List, [], ◌∷◌, ◌++◌, length, get_or, take, drop, map, refl, sym, ap, ◌∙◌, arith, append_assoc, append-nil, Option, Some, None}
-use Rattle.std.specs.Prelude.{nat_lt, nat_le, min, if◌then◌else◌, replicate}
+use Rattle.std.proofs.Common.{◌≡◌, ℕ, zero, suc, ◌+◌, ◌-◌, ◌/◌, ◌%◌, ◌<◌, ◌≤◌, true, false, List, [], ◌∷◌, ◌++◌, length, get_or, take, drop, map, refl, sym, ap, ◌∙◌, arith, append_assoc, append-nil, Option, Some, None}
+use Rattle.std.specs.Prelude.{if◌then◌else◌}
 use Rattle.std.specs.List.{range_with_len}
 use Rattle.std.specs.Option.{option_map}
 use Rattle.dsm_base.specs.declared.setup.Object.{Object}
@@ -10,7 +10,7 @@ use Rattle.dsm_lines.specs.declared.place.Place.{Place}
 use Rattle.dsm_lines.specs.declared.place.Span.{Span}
 use Rattle.std.proofs.lemmas.List.{drop_more}
 use Rattle.dsm_lines.specs.Building.{widths_of, piece_widths, noted}
-use Rattle.dsm_lines.specs.Places.{line_count, lines, place_from, place_of, cells_in, spans_from, same_object, one_if, object_of}
+use Rattle.dsm_lines.specs.Places.{line_count, lines, place_from, place_of, spans_from, same_object, one_if, object_of}
 use Rattle.std.proofs.lemmas.List.FromFn.{map-range_with_len_more}
 
 -- what a read of pieces has past their end
@@ -42,7 +42,7 @@ widths_more (first ∷ others) (suc i) piece within =
 
 pub spans_more : (start : ℕ) (pieces : List Piece) (object : Object) (i : ℕ) (piece : Piece) → i < length pieces
     → spans_from start (take (i + 1) pieces) object
-      ≡ spans_from start (take i pieces) object ++ one_if (same_object (get_or pieces i piece).object object) (record { first = start + lines (take i pieces); count = line_count (get_or pieces i piece) })
+    ≡ spans_from start (take i pieces) object ++ one_if (same_object (get_or pieces i piece).object object) (record { first = start + lines (take i pieces); count = line_count (get_or pieces i piece) })
 spans_more start [] object i piece within = absurd (omega arith)
 spans_more start (first ∷ others) object zero piece within =
     let here : start ≡ start + zero = omega arith in
@@ -52,8 +52,8 @@ spans_more start (first ∷ others) object (suc i) piece within =
     let here : start + line_count first + lines (take i others) ≡ start + (line_count first + lines (take i others)) = omega arith in
     ap (λ n. spans_from start (take n (first ∷ others)) object) count
     ∙ ap (λ ss. one_if (same_object first.object object) (record { first = start; count = line_count first }) ++ ss)
-      (spans_more (start + line_count first) others object i piece (omega arith)
-      ∙ ap (λ n. spans_from (start + line_count first) (take i others) object ++ one_if (same_object (get_or others i piece).object object) (record { first = n; count = line_count (get_or others i piece) })) here)
+    (spans_more (start + line_count first) others object i piece (omega arith)
+    ∙ ap (λ n. spans_from (start + line_count first) (take i others) object ++ one_if (same_object (get_or others i piece).object object) (record { first = n; count = line_count (get_or others i piece) })) here)
     ∙ sym (append_assoc _ (spans_from (start + line_count first) (take i others) object) _)
 
 -- the piece of a cell is that of its place
@@ -61,8 +61,8 @@ pub piece_of_place : (start : ℕ) (pieces : List Piece) (cell : ℕ) → piece_
 piece_of_place start [] cell = refl
 piece_of_place start (piece ∷ others) cell =
     elim (has_cell cell piece) as
-        (λ b. (if b then Some piece else piece_of others cell)
-            ≡ option_map (λ (place : Place). place.piece) (if b then Some (record { piece = piece; line = start + (cell - piece.first.0) / 8; at = (cell - piece.first.0) % 8 }) else place_from (start + line_count piece) others cell)) [
+    (λ b. (if b then Some piece else piece_of others cell)
+    ≡ option_map (λ (place : Place). place.piece) (if b then Some (record { piece = piece; line = start + (cell - piece.first.0) / 8; at = (cell - piece.first.0) % 8 }) else place_from (start + line_count piece) others cell)) [
       | true ↦ refl
       | false ↦ piece_of_place (start + line_count piece) others cell
     ]

@@ -1,6 +1,6 @@
 -- What a write to one word does to the bits, and where the first bit from a place on is.
-use Rattle.std.proofs.Common.{◌≡◌, ◌≢◌, ℕ, ◌+◌, ◌-◌, ◌*◌, ◌/◌, ◌%◌, ◌^◌, ◌<◌, ◌≤◌, Bool, true, false, List, length, get_or, set, get_or-set_same, get_or-set_other, refl, sym, ap, ◌∙◌, subst, inl, inr, arith}
-use Rattle.std.specs.Prelude.{◌==◌, if◌then◌else◌}
+use Rattle.std.proofs.Common.{◌≡◌, ◌≢◌, ℕ, ◌+◌, ◌-◌, ◌*◌, ◌/◌, ◌%◌, ◌^◌, ◌<◌, ◌≤◌, Bool, true, false, List, length, get_or, set, get_or-set_same, get_or-set_other, sym, ap, ◌∙◌, inl, inr, arith}
+use Rattle.std.specs.Prelude.{◌==◌}
 use Rattle.std.specs.Int.{bit_at, w64, bit_not, trailing_zeros}
 use Rattle.std.specs.Int.RustNames.{bit_or, bit_and}
 use Rattle.std.proofs.lemmas.Bool.Decides.{eqb_tells}
@@ -37,16 +37,16 @@ pub bit_is_set : (words read words' : List ℕ) (at : ℕ) → at / 64 < length 
 bit_is_set words read words' at within same is =
     ap is_bit (is ∙ ap (λ ws. set words (at / 64) (bit_or (get_or ws (at / 64) 0) (1 * 2 ^ (at % 64) % 2 ^ 64))) same)
     ∙ word_replaced words at _ true within
-      (ap (λ n. n == 1) (bit_at_set_same w64 (get_or words (at / 64) 0) (at % 64) (omega arith)))
-      (λ i fits differs. bit_at_set_other w64 (get_or words (at / 64) 0) (at % 64) (omega arith) i differs)
+    (ap (λ n. n == 1) (bit_at_set_same w64 (get_or words (at / 64) 0) (at % 64) (omega arith)))
+    (λ i fits differs. bit_at_set_other w64 (get_or words (at / 64) 0) (at % 64) (omega arith) i differs)
 
 pub bit_is_clear : (words read words' : List ℕ) (at : ℕ) → at / 64 < length words → read ≡ words → words' ≡ set words (at / 64) (bit_and (get_or read (at / 64) 0) (bit_not w64 (1 * 2 ^ (at % 64) % 2 ^ 64)))
     → is_bit words' ≡ update (is_bit words) at false
 bit_is_clear words read words' at within same is =
     ap is_bit (is ∙ ap (λ ws. set words (at / 64) (bit_and (get_or ws (at / 64) 0) (bit_not w64 (1 * 2 ^ (at % 64) % 2 ^ 64)))) same)
     ∙ word_replaced words at _ false within
-      (ap (λ n. n == 1) (bit_at_clear_same w64 (get_or words (at / 64) 0) (at % 64) (omega arith)))
-      (λ i fits differs. bit_at_clear_other w64 (get_or words (at / 64) 0) (at % 64) (omega arith) i fits differs)
+    (ap (λ n. n == 1) (bit_at_clear_same w64 (get_or words (at / 64) 0) (at % 64) (omega arith)))
+    (λ i fits differs. bit_at_clear_other w64 (get_or words (at / 64) 0) (at % 64) (omega arith) i fits differs)
 
 -- the bits of a word from a place on
 bit_behind : (word from at : ℕ) → from ≤ at → is_bit_of word at ≡ is_bit_of (word / 2 ^ from) (at - from)
@@ -68,9 +68,9 @@ lowest_at : (word from k : ℕ) → word < 2 ^ 64 → bit_at (word / 2 ^ from) k
 lowest_at word from k fits one zeros =
     let joined : from + k - from ≡ k = omega arith in
     let is_set : is_bit_of word (from + k) ≡ true =
-            bit_behind word from (from + k) (omega arith)
-            ∙ ap (is_bit_of (word / 2 ^ from)) joined
-            ∙ ap (λ n. n == 1) one in
+    bit_behind word from (from + k) (omega arith)
+    ∙ ap (is_bit_of (word / 2 ^ from)) joined
+    ∙ ap (λ n. n == 1) one in
     record {
       below = elim (cases_lt (from + k) 64) [ inl below ↦ below | inr above ↦ absurd (is_not_set word (from + k) fits above is_set) ];
       is_set = is_set;

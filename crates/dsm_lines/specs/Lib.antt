@@ -2,7 +2,6 @@ pub mod LineLists
 pub mod Places
 pub mod Building
 pub mod Tables
-pub mod Memories
 pub mod Bits
 pub mod Marking
 pub mod Marks

@@ -1,5 +1,5 @@
 -- Marks of lines.
-use Rattle.std.specs.Prelude.{◌≡◌, ℕ, ◌+◌, ◌/◌, ◌≤◌, Bool, false, List, length, filter}
+use Rattle.std.specs.Prelude.{ℕ, Bool, List, filter}
 use Rattle.std.specs.List.{range_with_len}
 use Rattle.dsm_lines.specs.declared.marks.DirtyBits.{DirtyBits}
 use Rattle.dsm_lines.specs.Bits.{is_bit}

@@ -1,6 +1,6 @@
 -- How a table holds where cells are bound.
-use Rattle.std.specs.Prelude.{◌≡◌, ℕ, ◌<◌, ◌^◌, ◌≤◌, Bool, true, List, [], length, Option, None, map}
-use Rattle.std.specs.List.{slice_index_or, slice_index, range_with_len}
+use Rattle.std.specs.Prelude.{◌≡◌, ℕ, ◌<◌, ◌^◌, true, List, [], length, Option, None}
+use Rattle.std.specs.List.{slice_index_or, slice_index}
 use Rattle.dsm_base.specs.declared.setup.Object.{Object}
 use Rattle.dsm_base.specs.declared.setup.Piece.{Piece}
 use Rattle.dsm_base.specs.Setups.{are_apart}

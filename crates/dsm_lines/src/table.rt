@@ -233,7 +233,11 @@ impl BindTable {
     {
         let widths = self.widths.as_slice();
         let at = line as usize;
-        if at < widths.len() { widths[at] as usize } else { 0 }
+        if at < widths.len() {
+            widths[at] as usize
+        } else {
+            0
+        }
     }
 
     /// The lines of a lock or barrier, a span a piece.

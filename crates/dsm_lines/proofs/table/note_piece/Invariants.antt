@@ -9,6 +9,6 @@ invariant-loop-offset l =
       count : length l.places ≡ length l.initial.places;
       noted : (cell : ℕ) → get_or l.places cell None
           ≡ (if nat_le l.piece.first.0 cell && nat_lt cell (l.piece.first.0 + l.offset)
-             then Some (record { piece = l.piece; line = l.start + (cell - l.piece.first.0) / 8; at = (cell - l.piece.first.0) % 8 })
-             else get_or l.initial.places cell None);
+          then Some (record { piece = l.piece; line = l.start + (cell - l.piece.first.0) / 8; at = (cell - l.piece.first.0) % 8 })
+          else get_or l.initial.places cell None);
     }

@@ -15,7 +15,7 @@ loop-piece-preserved c =
         | then-same_object+in_ok-push w ↦
             w.spans-is
             ∙ span_pushed c.args.pieces.now c.args.object c.loop-piece.piece-index blank c.loop-piece.spans w.push.new.self c.loop-piece.first c.line_count-count.result c.loop-piece-test.true
-              c.loop-piece.invariant.spans c.loop-piece.invariant.first c.line_count-count.ensures (sym c.same_object.ensures ∙ w.if-same_object.true) w.in_ok-push.ensures.ok
+            c.loop-piece.invariant.spans c.loop-piece.invariant.first c.line_count-count.ensures (sym c.same_object.ensures ∙ w.if-same_object.true) w.in_ok-push.ensures.ok
         | else-same_object w ↦
             w.spans-is
             ∙ span_passed c.args.pieces.now c.args.object c.loop-piece.piece-index blank c.loop-piece.spans c.loop-piece-test.true c.loop-piece.invariant.spans (sym c.same_object.ensures ∙ w.if-same_object.false)

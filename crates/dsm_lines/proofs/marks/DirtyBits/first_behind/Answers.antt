@@ -1,6 +1,6 @@
-use Rattle.std.proofs.Common.{sym, ◌∙◌, ap, get_or, List, ℕ, ◌+◌, ◌/◌, subst, Some, None}
+use Rattle.std.proofs.Common.{sym, ◌∙◌, ap, get_or, List, ℕ, ◌+◌, ◌/◌, subst, Some}
 use Rattle.dsm_lines.specs.Bits.{is_bit, is_bit_of, IsFirst}
-use Rattle.dsm_lines.proofs.Marking.{none_behind_page, first_behind_page, some_mark, within_lines, is_page}
+use Rattle.dsm_lines.proofs.Marking.{none_behind_page, first_behind_page, some_mark, within_lines}
 use Rattle.dsm_lines.proofs.marks.DirtyBits.first_behind.Goals as goal
 
 pub returns-in_err-next-clause-first : goal.returns-in_err-next-clause-first

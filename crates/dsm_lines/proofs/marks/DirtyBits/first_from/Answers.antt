@@ -1,5 +1,5 @@
-use Rattle.std.proofs.Common.{◌≡◌, sym, ◌∙◌, ap, get_or, List, ℕ, ◌+◌, ◌/◌, ◌%◌, subst, Some, None}
-use Rattle.dsm_lines.specs.Bits.{is_bit, is_bit_of, IsFirst}
+use Rattle.std.proofs.Common.{◌≡◌, get_or, List, ℕ, ◌/◌, ◌%◌, subst, Some, None}
+use Rattle.dsm_lines.specs.Bits.{is_bit_of, IsFirst}
 use Rattle.dsm_lines.proofs.Marking.{first_in_page, first_past_page, within_lines}
 use Rattle.dsm_lines.proofs.marks.DirtyBits.first_from.Goals as goal
 

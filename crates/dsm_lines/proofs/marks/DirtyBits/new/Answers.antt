@@ -1,4 +1,4 @@
-use Rattle.std.proofs.Common.{◌≡◌, ℕ, ◌+◌, ◌/◌, ap, ◌∙◌, replicate, rules}
+use Rattle.std.proofs.Common.{◌≡◌, ◌+◌, ◌/◌, ap, ◌∙◌, replicate, rules}
 use Rattle.dsm_lines.specs.Bits.{is_bit}
 use Rattle.dsm_lines.proofs.Marking.{no_bits}
 use Rattle.dsm_lines.proofs.marks.DirtyBits.new.Goals as goal

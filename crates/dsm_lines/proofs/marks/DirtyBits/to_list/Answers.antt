@@ -1,4 +1,4 @@
-use Rattle.std.proofs.Common.{◌≡◌, sym, ℕ, ◌+◌, ◌-◌, ap, ◌∙◌, ◌++◌, ◌∷◌, [], arith}
+use Rattle.std.proofs.Common.{sym, ◌+◌, ap, ◌∙◌, ◌++◌, ◌∷◌, [], arith}
 use Rattle.dsm_lines.specs.Marks.{marks_in}
 use Rattle.dsm_lines.proofs.Ranges.{next_passes, none_left}
 use Rattle.dsm_lines.proofs.marks.DirtyBits.to_list.Goals as goal
@@ -7,9 +7,9 @@ pub loop-line-preserved : goal.loop-line-preserved
 loop-line-preserved c =
     record {
       listed =
-        c.in_ok-push.ensures.ok
-        ∙ ap (λ lines. lines ++ c.in-Some.line ∷ []) c.loop-line.invariant.listed
-        ∙ sym (next_passes (marks_in c.args.self.now) 0 c.loop-line.from (c.in-Some.line + 1) c.loop-line.from c.in-Some.line (omega arith) (omega arith) c.in-Some.ensures.first);
+          c.in_ok-push.ensures.ok
+          ∙ ap (λ lines. lines ++ c.in-Some.line ∷ []) c.loop-line.invariant.listed
+          ∙ sym (next_passes (marks_in c.args.self.now) 0 c.loop-line.from (c.in-Some.line + 1) c.loop-line.from c.in-Some.line (omega arith) (omega arith) c.in-Some.ensures.first);
       within = omega (arith, c.in-Some.ensures.within);
     }
 

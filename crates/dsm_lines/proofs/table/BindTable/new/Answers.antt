@@ -1,5 +1,4 @@
-use Rattle.std.proofs.Common.{◌≡◌, ◌∙◌, sym, arith, ap, length, List}
-use Rattle.dsm_base.specs.declared.setup.Piece.{Piece}
+use Rattle.std.proofs.Common.{◌∙◌, arith, ap}
 use Rattle.dsm_lines.specs.Building.{widths_of}
 use Rattle.dsm_lines.specs.Places.{lines}
 use Rattle.dsm_lines.proofs.Pieces.{room_of, widths_are, is_table}
