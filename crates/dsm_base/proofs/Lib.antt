@@ -1,1 +1,5 @@
+pub mod Families
+pub mod StepsSettle
+pub mod Tops
 pub mod Setups
+pub mod BigEndian

@@ -1,5 +1,6 @@
 -- Failures have a cause: a count that rose.
-use Rattle.std.specs.Prelude.{ℕ, ◌+◌, ◌-◌, ◌^◌, ◌≤◌, min, Result, MatchResult}
+use Rattle.std.specs.Prelude.{ℕ, ◌+◌, ◌-◌, ◌^◌, ◌≤◌, min, Result, MatchResult, IfErr}
+use Rattle.dsm_base.specs.declared.errors.Failed.{Failed as Failure}
 use Rattle.dsm_base.specs.declared.errors.ReadErr.{ReadErr}
 use Rattle.dsm_base.specs.declared.errors.ReadErr.TheVariants.{Failed, Memory}
 
@@ -16,3 +17,8 @@ IfFailed Memory P = Unit {0}
 pub record HasCause {T : Type 0} (before now : ℕ) (result : Result T ReadErr) : Type 0 where
   pub later : before ≤ now
   pub rose : MatchResult result (λ _. Unit {0}) (λ e. IfFailed e (Rose before now))
+
+-- the same of a call whose only error is a failure
+pub record HasFailureCause {T : Type 0} (before now : ℕ) (result : Result T Failure) : Type 0 where
+  pub later : before ≤ now
+  pub rose : IfErr result (λ _. Rose before now)

@@ -1,5 +1,7 @@
 -- The machine of one memory: its state, the turn of a thread, and its runs. A run is a list of turns, the newest first.
-use Rattle.std.specs.Prelude.{◌≡◌, ℕ, ℤ, pos, ◌+◌, ◌<◌, Bool, true, false, ◌||◌, ◌==◌, if◌then◌else◌, nat_lt, List, [], ◌∷◌, Option, Some, None, is_some}
+use Rattle.std.specs.Prelude.{◌≡◌, ℕ, ℤ, pos, ◌+◌, ◌<◌, Bool, true, ◌||◌, ◌==◌, if◌then◌else◌, nat_lt, List, [], ◌∷◌, Option, Some, None, is_some}
+use Rattle.dsm_base.specs.declared.names.Cell.{Cell}
+use Rattle.dsm_base.specs.declared.names.Lock.{Lock}
 use Rattle.dsm_base.specs.declared.names.Mode.{Mode}
 use Rattle.dsm_base.specs.declared.names.Fault.{Fault}
 use Rattle.dsm_base.specs.declared.label.Want.{Want}
@@ -7,7 +9,8 @@ use Rattle.dsm_base.specs.declared.label.Label.{Label}
 use Rattle.dsm_base.specs.declared.setup.Piece.{Piece}
 use Rattle.dsm_base.specs.declared.setup.Setup.{Setup}
 use Rattle.dsm_base.specs.Family.{update, all_below}
-use Rattle.dsm_base.specs.Access.{Rights, may_load, may_store, is_exclusive}
+use Rattle.dsm_base.specs.Access.{Rights, piece_of, may_load_piece, may_store_piece, is_exclusive}
+use Rattle.dsm_base.specs.Holders.{are_compatible}
 use Rattle.dsm_base.specs.Threads.{Semantics}
 
 -- The label of a turn.
@@ -18,18 +21,36 @@ pub record Surroundings : Type 0 where
   pub memory : ℕ → ℤ
   pub versions : ℕ → ℕ
 
+-- a load of a cell of this piece with this value, or a fault where p may not load it
+abbrev pub load_label : ℕ → Rights → Option Piece → Cell → ℤ → ℕ → Label
+load_label p rights piece cell value line =
+    if may_load_piece p rights piece then Label.Load cell value else Label.Stop Fault.Unbound line
+
+-- a store to a cell of this piece, or a fault where p may not store to it
+abbrev pub store_label : ℕ → Rights → Option Piece → Cell → ℤ → ℕ → Label
+store_label p rights piece cell value line =
+    if may_store_piece p rights piece then Label.Store cell value else Label.Stop Fault.Unbound line
+
+-- an ask for a lock, or a fault where it is held
+abbrev pub ask_label : Rights → Lock → Mode → ℕ → Label
+ask_label rights lock mode line =
+    if is_some (rights.held lock.0) then Label.Stop Fault.Held line else Label.Ask lock mode
+
+-- a lock is given back, or a fault where it isn't held
+abbrev pub give_label : Rights → Lock → ℕ → Label
+give_label rights lock line =
+    if is_some (rights.held lock.0) then Label.Give lock else Label.Stop Fault.NotHeld line
+
 -- the label of a turn of p by what it wants and sees; a thread that is over has none
 abbrev pub label_of : List Piece → ℕ → Surroundings → List ℕ → Want → Option Label
 label_of pieces p seen text Want.Quiet = Some Label.Quiet
 label_of pieces p seen text (Want.Load cell line) =
-    Some (if may_load pieces p seen.rights cell.0 then Label.Load cell (seen.memory cell.0) else Label.Stop Fault.Unbound line)
+    Some (load_label p seen.rights (piece_of pieces cell.0) cell (seen.memory cell.0) line)
 label_of pieces p seen text (Want.Store cell value line) =
-    Some (if may_store pieces p seen.rights cell.0 then Label.Store cell value else Label.Stop Fault.Unbound line)
-label_of pieces p seen text (Want.Ask lock mode line) =
-    Some (if is_some (seen.rights.held lock.0) then Label.Stop Fault.Held line else Label.Ask lock mode)
+    Some (store_label p seen.rights (piece_of pieces cell.0) cell value line)
+label_of pieces p seen text (Want.Ask lock mode line) = Some (ask_label seen.rights lock mode line)
 label_of pieces p seen text (Want.Take lock mode) = Some (Label.Take lock mode (seen.versions lock.0))
-label_of pieces p seen text (Want.Give lock line) =
-    Some (if is_some (seen.rights.held lock.0) then Label.Give lock else Label.Stop Fault.NotHeld line)
+label_of pieces p seen text (Want.Give lock line) = Some (give_label seen.rights lock line)
 label_of pieces p seen text (Want.Arrive bar) = Some (Label.Arrive bar)
 label_of pieces p seen text (Want.Cross bar) = Some (Label.Cross bar (seen.rights.crossed bar.0 + 1))
 label_of pieces p seen text Want.Line = Some (Label.Line text)
@@ -39,6 +60,7 @@ label_of pieces p seen text Want.Over = None
 
 -- What a label leaves of each part of the state.
 
+-- a store sets its cell
 abbrev pub memory_after : (ℕ → ℤ) → Label → ℕ → ℤ
 memory_after memory (Label.Store cell value) = update memory cell.0 value
 memory_after memory _ = memory
@@ -67,6 +89,7 @@ versions_after versions held _ = versions
 
 -- The state.
 
+-- the threads, the one memory, and how each processor stands to the locks and barriers
 pub record PlainState (S : Type 0) : Type 0 where
   pub threads : ℕ → S
   pub memory : ℕ → ℤ
@@ -75,6 +98,7 @@ pub record PlainState (S : Type 0) : Type 0 where
   pub arrived : ℕ → ℕ → ℕ  -- by processor and barrier
   pub crossed : ℕ → ℕ → ℕ
 
+-- before the first turn
 abbrev pub plain_start : {S : Type 0} → (ℕ → S) → PlainState S
 plain_start first = record {
   threads = first;
@@ -93,6 +117,7 @@ seen_by s p = record {
   versions = s.versions;
 }
 
+-- after a turn of p
 abbrev pub plain_after : {S : Type 0} → Semantics S → PlainState S → ℕ → Label → PlainState S
 plain_after threads s p label = record {
   threads = update s.threads p (threads.after (s.threads p) label);
@@ -108,9 +133,7 @@ plain_after threads s p label = record {
 -- whether another's hold may stand beside one in this mode
 abbrev pub may_stand_beside : Mode → Option Mode → Bool
 may_stand_beside mode None = true
-may_stand_beside Mode.Shared (Some Mode.Shared) = true
-may_stand_beside Mode.Shared (Some Mode.Excl) = false
-may_stand_beside Mode.Excl (Some other) = false
+may_stand_beside mode (Some other) = are_compatible mode other
 
 -- whether p may take a lock beside those that hold it
 abbrev pub can_take : ℕ → (ℕ → ℕ → Option Mode) → ℕ → ℕ → Mode → Bool
@@ -120,6 +143,7 @@ can_take procs held p lock mode = all_below procs (λ q. (q == p) || may_stand_b
 abbrev pub can_cross : ℕ → (ℕ → ℕ → ℕ) → ℕ → ℕ → Bool
 can_cross procs arrived epoch bar = all_below procs (λ q. nat_lt epoch (arrived q bar))
 
+-- whether p need not wait for the others
 abbrev pub is_possible : {S : Type 0} → ℕ → PlainState S → ℕ → Want → Bool
 is_possible procs s p (Want.Take lock mode) = can_take procs s.held p lock.0 mode
 is_possible procs s p (Want.Cross bar) = can_cross procs s.arrived (s.crossed p bar.0) bar.0
@@ -130,6 +154,7 @@ abbrev pub plain_turn_of : {S : Type 0} → Setup → PlainState S → ℕ → L
 plain_turn_of setup s p text want =
     if is_possible setup.procs s p want then label_of setup.bindings p (seen_by s p) text want else None
 
+-- the turn of p in a state, where it is possible
 abbrev pub plain_turn : {S : Type 0} → Setup → Semantics S → PlainState S → ℕ → Option Label
 plain_turn setup threads s p = plain_turn_of setup s p (threads.text (s.threads p)) (threads.want (s.threads p))
 

@@ -1,14 +1,21 @@
 -- Which calls of an object in memory fail.
-use Rattle.std.specs.Prelude.{◌-◌, Bool, true, false, ◌&&◌, ◌==◌, if◌then◌else◌, List, map}
+use Rattle.std.specs.Prelude.{ℕ, ◌-◌, Bool, ◌&&◌, ◌==◌, if◌then◌else◌, List, map}
 use Rattle.std.specs.List.{list_any}
 use Rattle.dsm_base.specs.declared.plan.CallKind.{CallKind}
 use Rattle.dsm_base.specs.declared.plan.PlannedFault.{PlannedFault}
 
+-- the kinds of call, numbered
+abbrev pub call_number : CallKind → ℕ
+call_number CallKind.Read = 0
+call_number CallKind.Put = 1
+call_number CallKind.Clear = 2
+call_number CallKind.Room = 3
+call_number CallKind.Write = 4
+call_number CallKind.Mark = 5
+call_number CallKind.Marked = 6
+
 abbrev pub same_call : CallKind → CallKind → Bool
-same_call CallKind.Read CallKind.Read = true
-same_call CallKind.Put CallKind.Put = true
-same_call CallKind.Read CallKind.Put = false
-same_call CallKind.Put CallKind.Read = false
+same_call call other = call_number call == call_number other
 
 -- whether a planned fault is that of the next call of this kind
 abbrev pub is_next : CallKind → PlannedFault → Bool

@@ -13,6 +13,16 @@ pub enum Act {
     Step(Proc),
     /// The oldest message from the first processor to the second is delivered.
     Deliver(Proc, Proc),
+    /// A checkpoint image of the processor is taken.
+    Ckpt(Proc),
+    /// The next block of the processor's image under way is written; where all are, it is marked.
+    Block(Proc),
+    /// The processor crashes: what it holds in memory is lost, and so are messages from and to it.
+    Crash(Proc),
+    /// The next block is written with so many of its bytes, from 0 to 512, and the processor crashes.
+    Torn(Proc, u32),
+    /// The processor that is down starts again from its marked image, or from the beginning.
+    Restart(Proc),
 }
 
 /// Why a schedule or a list of picks was refused. A `line` is a line of its text, counted from 1.
@@ -24,7 +34,7 @@ pub enum SchedErr {
     BadEntry { line: u32 },
     /// A number of the entry isn't in its range.
     OutOfRange { line: u32 },
-    /// The entry is a second crash.
+    /// The entry is a second crash, which can't be run yet.
     SecondCrash { line: u32 },
     /// The entry restarts a processor that isn't down.
     NoCrash { line: u32 },
@@ -32,9 +42,9 @@ pub enum SchedErr {
     TooMany { count: u64 },
     /// The text has more than 4,194,304 bytes: so many.
     TooLong { bytes: u32 },
-    /// It isn't one of those that can be run yet.
+    /// The entry is right, and isn't one of those that can be run yet.
     NotBuilt { line: u32 },
-    /// Want of memory.
+    /// Out of memory.
     Memory,
 }
 

@@ -24,7 +24,8 @@ pub trait Files {
     /// Appends the file's bytes, of a longer file the first `most + 1`. No read changes what the files
     /// hold. `Failed` comes only where the count of failures rose.
     fn read(&mut self, name: &String, most: usize, into: &mut Vec<u8>) -> Result<(), ReadErr>
-        ensures read { OnOk result (Reads (files_hold self.old) (string_bytes name.now) most into.old.items into.new.items) }
+        ensures read { OnOk result (Reads (files_hold self.old) (string_bytes name.now) most
+            into.old.items into.new.items) }
         ensures same { files_hold self.new ≡ files_hold self.old }
         ensures cause { HasCause (files_faults self.old) (files_faults self.new) result };
 
@@ -45,7 +46,8 @@ pub type NamedFiles = Items<NamedFile>;
 
 /// The contents of the first file of a name.
 fn contents_of<'a>(files: &'a [NamedFile], name: &[u8]) -> Option<&'a [u8]>
-    ensures { MatchOption result (contents_of files.now name.now ≡ None) (λ contents. contents_of files.now name.now ≡ Some contents.now) }
+    ensures { MatchOption result (contents_of files.now name.now ≡ None)
+        (λ contents. contents_of files.now name.now ≡ Some contents.now) }
 {
     for file in files {
         if file.name.as_slice() == name {
@@ -82,7 +84,8 @@ impl MemFiles {
     /// The nth call of this kind from now on fails.
     pub fn fail(&mut self, call: CallKind, nth: u32) -> Result<(), MemFault>
         requires { 1 ≤ nth }
-        ensures plan { OnOk result (self.new.plan ≡ self.old.plan ++ record { call = call; left = nth } ∷ []) }
+        ensures plan { OnOk result (self.new.plan ≡ self.old.plan ++
+            record { call = call; left = nth } ∷ []) }
         ensures same { self.new ≡ record self.old { plan = self.new.plan } }
     {
         self.plan.add(call, nth)
@@ -102,10 +105,13 @@ impl Files for MemFiles {
     ghost files_faults = { λ files. files.faults };
 
     fn read(&mut self, name: &String, most: usize, into: &mut Vec<u8>) -> Result<(), ReadErr>
-        ensures read { OnOk result (Reads (Some (contents_of self.old.files)) (string_bytes name.now) most into.old.items into.new.items) }
+        ensures read { OnOk result (Reads (Some (contents_of self.old.files))
+            (string_bytes name.now) most into.old.items into.new.items) }
         ensures same { Some (contents_of self.new.files) ≡ Some (contents_of self.old.files) }
         ensures cause { HasCause self.old.faults self.new.faults result }
-        ensures failed { IsErrOf result ReadErr.Failed ↔ ((is_due CallKind.Read self.old.plan ≡ true) ⊎ (contents_of self.old.files (string_bytes name.now) ≡ None)) }
+        ensures failed { IsErrOf result ReadErr.Failed ↔
+            ((is_due CallKind.Read self.old.plan ≡ true) ⊎
+            (contents_of self.old.files (string_bytes name.now) ≡ None)) }
         ensures counted { self.new.plan ≡ counted CallKind.Read self.old.plan }
         ensures calm { OnOk result (self.new.faults ≡ self.old.faults) }
     {

@@ -1,20 +1,58 @@
 //! Numbers with names, modes and faults.
 
+ghost use Rattle.std.specs.Prelude.{◌≡◌};
+
 /// A processor, numbered from 0.
 #[derive(Clone, Copy, Debug, PartialEq, Eq, PartialOrd, Ord, Hash)]
 pub struct Proc(pub u8);
+
+impl Proc {
+    /// Its number, to index by.
+    pub fn index(self) -> usize
+        ensures { result ≡ self.0 }
+    {
+        usize::from(self.0)
+    }
+}
 
 /// A shared cell, numbered from 0 in the order of the text.
 #[derive(Clone, Copy, Debug, PartialEq, Eq, PartialOrd, Ord, Hash)]
 pub struct Cell(pub u32);
 
+impl Cell {
+    /// Its number, to index by.
+    pub fn index(self) -> usize
+        ensures { result ≡ self.0 }
+    {
+        self.0 as usize
+    }
+}
+
 /// A lock, numbered from 0 in the order of the text.
 #[derive(Clone, Copy, Debug, PartialEq, Eq, PartialOrd, Ord, Hash)]
 pub struct Lock(pub u16);
 
+impl Lock {
+    /// Its number, to index by.
+    pub fn index(self) -> usize
+        ensures { result ≡ self.0 }
+    {
+        usize::from(self.0)
+    }
+}
+
 /// A barrier, numbered from 0 in the order of the text.
 #[derive(Clone, Copy, Debug, PartialEq, Eq, PartialOrd, Ord, Hash)]
 pub struct Bar(pub u8);
+
+impl Bar {
+    /// Its number, to index by.
+    pub fn index(self) -> usize
+        ensures { result ≡ self.0 }
+    {
+        usize::from(self.0)
+    }
+}
 
 /// How a lock is held: beside other shared holders, or alone.
 #[derive(Clone, Copy, Debug, PartialEq, Eq, Hash)]

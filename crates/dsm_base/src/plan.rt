@@ -11,6 +11,11 @@ use std::marker::Model;
 pub enum CallKind {
     Read,
     Put,
+    Clear,
+    Room,
+    Write,
+    Mark,
+    Marked,
 }
 
 /// After how many more calls of a kind one fails.
@@ -67,7 +72,8 @@ impl FaultPlan {
 
     /// The nth call of this kind from now on fails.
     pub fn add(&mut self, call: CallKind, nth: u32) -> Result<(), MemFault>
-        ensures ok { OnOk result (self.new ≡ self.old ++ record { call = call; left = nth } ∷ []) }
+        ensures ok { OnOk result (self.new ≡ self.old ++
+            record { call = call; left = nth } ∷ []) }
         ensures err { OnErr result (self.new ≡ self.old) }
     {
         self.faults.push(PlannedFault { call, left: nth })?;

@@ -62,7 +62,8 @@ impl MemSink {
     /// The nth call of this kind from now on fails.
     pub fn fail(&mut self, call: CallKind, nth: u32) -> Result<(), MemFault>
         requires { 1 ≤ nth }
-        ensures plan { OnOk result (self.new.plan ≡ self.old.plan ++ record { call = call; left = nth } ∷ []) }
+        ensures plan { OnOk result (self.new.plan ≡ self.old.plan ++
+            record { call = call; left = nth } ∷ []) }
         ensures same { self.new ≡ record self.old { plan = self.new.plan } }
     {
         self.plan.add(call, nth)
@@ -89,9 +90,11 @@ impl Sink for MemSink {
     ghost sink_faults = { λ sink. sink.faults };
 
     fn put(&mut self, bytes: &[u8]) -> Result<usize, ReadErr>
-        ensures taken { PutTakes (Some self.old.bytes.items) (Some self.new.bytes.items) bytes.now result }
+        ensures taken { PutTakes (Some self.old.bytes.items) (Some self.new.bytes.items) bytes.now
+            result }
         ensures cause { HasCause self.old.faults self.new.faults result }
-        ensures failed { IsErrOf result ReadErr.Failed ↔ (is_due CallKind.Put self.old.plan ≡ true) }
+        ensures failed { IsErrOf result ReadErr.Failed ↔
+            (is_due CallKind.Put self.old.plan ≡ true) }
         ensures counted { self.new.plan ≡ counted CallKind.Put self.old.plan }
         ensures count { IfOk result (λ count. count ≡ min (length bytes.now) self.old.piece) }
         ensures piece { self.new.piece ≡ self.old.piece }

@@ -37,6 +37,13 @@ impl Text {
         Text { bytes }
     }
 
+    /// The bytes, with no copy.
+    pub fn into_vec(self) -> Vec<u8>
+        ensures { result.items ≡ self }
+    {
+        self.bytes
+    }
+
     pub fn as_slice(&self) -> &[u8]
         ensures { result.now ≡ self.now }
     {

@@ -3,7 +3,7 @@ use Rattle.std.proofs.Common.{◌≡◌, ℕ, Bool, ◌+◌, ◌<◌, drop, get_
 use Rattle.std.proofs.lemmas.List.{append-nil}
 use Rattle.std.proofs.Math.Seq.{drop-cons}
 use Rattle.dsm_syntax.specs.declared.errors.ProgErr.{ProgErr}
-use Rattle.dsm_syntax.specs.declared.tree.Expr.{Expr}
+use Rattle.dsm_syntax.specs.declared.tree.Expression.{Expression as TreeExpression}
 use Rattle.dsm_syntax.specs.declared.tree.Name.{Name}
 use Rattle.dsm_check.specs.declared.names.Named.{Named}
 use Rattle.dsm_syntax.specs.Views as tree
@@ -21,7 +21,7 @@ drop-next all i item h same =
 
 -- Arguments.
 
-pub counted : (es : List Expr) → count_of (tree.views es) ≡ length es
+pub counted : (es : List TreeExpression) → count_of (tree.views es) ≡ length es
 counted [] = refl
 counted (e ∷ es) = ap suc (counted es)
 
@@ -49,7 +49,7 @@ behind-none (Err e) = refl
 pub behind-end : (made : List Expression) → behind made (Ok r.nil) ≡ Ok (views made)
 behind-end made = ap (λ all. Ok all) (joined-nil (views made))
 
-pub behind-next : (names : List Entry) (made : List Expression) (e : Expr) (rest : List Expr) (value : Expression)
+pub behind-next : (names : List Entry) (made : List Expression) (e : TreeExpression) (rest : List TreeExpression) (value : Expression)
     → resolve names (tree.view e) ≡ Ok (view value)
     → behind made (resolve_all names (tree.views (e ∷ rest))) ≡ behind (made ++ value ∷ []) (resolve_all names (tree.views rest))
 behind-next names made e rest value h =
@@ -60,13 +60,13 @@ behind-next names made e rest value h =
     by (Ok more) = ap (λ all. Ok all) (joined-push made value more)
     by (Err e) = refl
 
-pub behind-refused : (names : List Entry) (made : List Expression) (e : Expr) (rest : List Expr) (why : ProgErr)
+pub behind-refused : (names : List Entry) (made : List Expression) (e : TreeExpression) (rest : List TreeExpression) (why : ProgErr)
     → resolve names (tree.view e) ≡ Err why → behind made (resolve_all names (tree.views (e ∷ rest))) ≡ Err why
 behind-refused names made e rest why h =
     ap (λ first. behind made (first >>= (λ one. resolve_all names (tree.views rest) >>= (λ others. Ok (r.cons one others))))) h
 
 -- a call whose parts stand
-pub called : (needed : Bool) (names : List Entry) (name : Name) (arguments : List Expr) (named : Named) (function : ℕ) (values : r.Expressions)
+pub called : (needed : Bool) (names : List Entry) (name : Name) (arguments : List TreeExpression) (named : Named) (function : ℕ) (values : r.Expressions)
     → used names name ≡ Ok named → as_called needed name (length arguments) named ≡ Ok function
     → resolve_all names (tree.views arguments) ≡ Ok values
     → resolve_call needed names name (tree.views arguments) ≡ Ok (r.call function values name.line)

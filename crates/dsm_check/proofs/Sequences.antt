@@ -1,6 +1,6 @@
 -- Statements that are made one by one.
 use Rattle.std.proofs.Common.{◌≡◌, Bool, List, [], ◌∷◌, ◌++◌, Ok, Err, refl, sym, ap, ◌∙◌}
-use Rattle.dsm_syntax.specs.declared.tree.Stmt.{Stmt}
+use Rattle.dsm_syntax.specs.declared.tree.Statement.{Statement as TreeStatement}
 use Rattle.dsm_syntax.specs.Tree as t
 use Rattle.dsm_syntax.specs.Views as tree
 use Rattle.dsm_check.specs.declared.resolved.Statement.{Statement}
@@ -34,7 +34,7 @@ trailing-none (Err e) = refl
 pub trailing-end : (made : List Statement) (scope : Scope) → trailing made (Ok (r.none, scope)) ≡ Ok (view_statements made, scope)
 trailing-end made scope = ap (λ (all : r.Statements). Ok (all, scope)) (followed-none (view_statements made))
 
-pub trailing-next : (around : Around) (looped : Bool) (made : List Statement) (before : Scope) (s : Stmt) (rest : List Stmt) (value : Statement) (next : Scope)
+pub trailing-next : (around : Around) (looped : Bool) (made : List Statement) (before : Scope) (s : TreeStatement) (rest : List TreeStatement) (value : Statement) (next : Scope)
     → resolve_statement around looped before (tree.view_statement s) ≡ Ok (view_statement value, next)
     → trailing made (resolve_statements around looped before (tree.view_statements (s ∷ rest)))
     ≡ trailing (made ++ value ∷ []) (resolve_statements around looped next (tree.view_statements rest))

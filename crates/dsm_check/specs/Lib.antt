@@ -1,11 +1,5 @@
 pub mod Resolved
 pub mod Views
-pub mod SemanticsValues
-pub mod SemanticsSteps
-pub mod SemanticsItems
-pub mod SemanticsWeights
-pub mod Semantics
-pub mod SemanticsWithin
 pub mod Environments
 pub mod Checks
 pub mod FileNames

@@ -151,7 +151,8 @@ struct Binder<'a> {
 impl<'a> Binder<'a> {
     /// What a name that is used stands for.
     fn used(&self, name: &Name) -> Result<Named, ProgErr>
-        ensures value { Gives (λ named. named) result (used (names_of self.now.names.now) name.now) }
+        ensures value { Gives (λ named. named) result
+            (used (names_of self.now.names.now) name.now) }
         ensures there { IfOk result (IsThere (names_of self.now.names.now)) }
     {
         match self.names.get(name.text.as_slice()) {
@@ -162,7 +163,8 @@ impl<'a> Binder<'a> {
 
     /// The number of a lock, or of the first of an array with its size.
     fn locks(&self, name: &Name) -> Result<(u16, Option<u16>), ProgErr>
-        ensures value { Gives (λ locks. locks) result (locks_of (names_of self.now.names.now) name.now) }
+        ensures value { Gives (λ locks. locks) result
+            (locks_of (names_of self.now.names.now) name.now) }
         ensures few { IfOk result (λ locks. locks.0 + extent locks.1 ≤ 256) }
         ensures some { IfOk result (λ locks. 0 < extent locks.1) }
     {
@@ -171,14 +173,16 @@ impl<'a> Binder<'a> {
 
     /// The number of a barrier.
     fn barrier(&self, name: &Name) -> Result<u8, ProgErr>
-        ensures { Gives (λ number. number) result (barrier_of (names_of self.now.names.now) name.now) }
+        ensures { Gives (λ number. number) result
+            (barrier_of (names_of self.now.names.now) name.now) }
     {
         as_barrier(self.alloc, name, self.used(name)?)
     }
 
     /// Shared data.
     fn shared(&self, name: &Name) -> Result<Array, ProgErr>
-        ensures value { Gives (λ cells. cells) result (shared_of (names_of self.now.names.now) name.now) }
+        ensures value { Gives (λ cells. cells) result
+            (shared_of (names_of self.now.names.now) name.now) }
         ensures few { IfOk result (λ cells. cells.first + cells.size ≤ 65536) }
     {
         as_shared(self.alloc, name, self.used(name)?)
@@ -186,7 +190,8 @@ impl<'a> Binder<'a> {
 
     /// Tests that none of so many cells is bound already.
     fn test_free(&self, line: u32, first: u32, count: u32) -> Result<(), ProgErr>
-        ensures { Gives (λ _. self.now.pieces ++ []) result (bound self.now.pieces line first count []) }
+        ensures { Gives (λ _. self.now.pieces ++ []) result
+            (bound self.now.pieces line first count []) }
     {
         match first_bound(self.pieces.as_slice(), first, count) {
             Some(cell) => Err(ProgErr::BindOverlap { cell, line }),
@@ -195,7 +200,8 @@ impl<'a> Binder<'a> {
     }
 
     fn bind(&mut self, bind: &Bind) -> Result<(), ProgErr>
-        ensures value { Gives (λ _. self.new.pieces) result (with_bind (names_of self.old.names.now) self.old.pieces bind.now) }
+        ensures value { Gives (λ _. self.new.pieces) result
+            (with_bind (names_of self.old.names.now) self.old.pieces bind.now) }
         ensures names { self.new.names.now ≡ self.old.names.now }
     {
         let (lock, size) = self.locks(&bind.lock)?;
@@ -218,7 +224,8 @@ impl<'a> Binder<'a> {
     fn add_pieces(&mut self, lock: u16, first: u32, count: u32, size: u16) -> Result<(), ProgErr>
         requires locks { lock + size ≤ 256 }
         requires cells { first + size * count ≤ 65536 }
-        ensures pieces { OnOk result (self.new.pieces ≡ self.old.pieces ++ lock_pieces lock first count size) }
+        ensures pieces { OnOk result (self.new.pieces ≡
+            self.old.pieces ++ lock_pieces lock first count size) }
         ensures memory { IfErr result (λ e. e ≡ Memory) }
         ensures names { self.new.names.now ≡ self.old.names.now }
     {
@@ -233,7 +240,8 @@ impl<'a> Binder<'a> {
     }
 
     fn bind_each(&mut self, bind: &BindEach) -> Result<(), ProgErr>
-        ensures value { Gives (λ _. self.new.pieces) result (with_bind_each (names_of self.old.names.now) self.old.pieces bind.now) }
+        ensures value { Gives (λ _. self.new.pieces) result
+            (with_bind_each (names_of self.old.names.now) self.old.pieces bind.now) }
         ensures names { self.new.names.now ≡ self.old.names.now }
     {
         let (lock, size) = self.locks(&bind.locks)?;
@@ -251,7 +259,8 @@ impl<'a> Binder<'a> {
     }
 
     fn bind_barrier(&mut self, bind: &BindBarrier) -> Result<(), ProgErr>
-        ensures value { Gives (λ _. self.new.pieces) result (with_bind_barrier (names_of self.old.names.now) self.old.pieces bind.now) }
+        ensures value { Gives (λ _. self.new.pieces) result
+            (with_bind_barrier (names_of self.old.names.now) self.old.pieces bind.now) }
         ensures names { self.new.names.now ≡ self.old.names.now }
     {
         let barrier = self.barrier(&bind.barrier)?;
@@ -276,7 +285,8 @@ impl<'a> Binder<'a> {
     }
 
     fn item(&mut self, item: &Item) -> Result<(), ProgErr>
-        ensures value { Gives (λ _. self.new.pieces) result (with_binding (names_of self.old.names.now) self.old.pieces (view_item item.now)) }
+        ensures value { Gives (λ _. self.new.pieces) result
+            (with_binding (names_of self.old.names.now) self.old.pieces (view_item item.now)) }
         ensures names { self.new.names.now ≡ self.old.names.now }
     {
         match item {
@@ -290,7 +300,8 @@ impl<'a> Binder<'a> {
 
 /// The pieces of a program, in the order of the text.
 pub fn pieces_of(alloc: Global, names: &Names, items: &[Item]) -> Result<Items<Piece>, ProgErr>
-    ensures { Gives (λ pieces. pieces) result (pieces_of (names_of names.now) (view_items items.now)) }
+    ensures { Gives (λ pieces. pieces) result
+        (pieces_of (names_of names.now) (view_items items.now)) }
 {
     let mut binder = Binder {
         alloc,

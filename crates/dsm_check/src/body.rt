@@ -22,7 +22,8 @@ use std::alloc::Global;
 fn declare_params<'a>(scope: &mut Scope<'a>, params: &'a [Name]) -> Result<(), ProgErr>
     requires open { 1 ≤ blocks_in scope.old.locals }
     requires first { scope.old.slots ≡ 0 }
-    ensures value { Gives (λ _. scope_of scope.new) result (each with_variable (scope_of scope.old) params.now) }
+    ensures value { Gives (λ _. scope_of scope.new) result
+        (each with_variable (scope_of scope.old) params.now) }
     ensures count { OnOk result (scope.new.slots ≡ length params.now) }
     ensures blocks { OnOk result (1 ≤ blocks_in scope.new.locals) }
 {
@@ -34,7 +35,8 @@ fn declare_params<'a>(scope: &mut Scope<'a>, params: &'a [Name]) -> Result<(), P
 
 /// A function with every name resolved.
 fn resolve(alloc: Global, file: &Names, function: &tree::Function) -> Result<Function, ProgErr>
-    ensures { Gives view_resolved result (resolve_function (names_of file.now) (view_function function.now)) }
+    ensures { Gives view_resolved result (resolve_function (names_of file.now)
+        (view_function function.now)) }
 {
     let around = Around {
         name: &function.name.text,
@@ -54,7 +56,8 @@ fn resolve(alloc: Global, file: &Names, function: &tree::Function) -> Result<Fun
 
 /// The functions of a program, in the order of the text.
 pub fn functions_of(alloc: Global, file: &Names, items: &[Item]) -> Result<Vec<Function>, ProgErr>
-    ensures { Gives (λ functions. map view_resolved functions.items) result (functions_of (names_of file.now) (view_items items.now)) }
+    ensures { Gives (λ functions. map view_resolved functions.items) result
+        (functions_of (names_of file.now) (view_items items.now)) }
 {
     let mut functions = Vec::new(alloc);
     for item in items {

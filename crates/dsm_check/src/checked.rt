@@ -19,7 +19,8 @@ pub struct Checked {
     pub(crate) barriers: u8,
     pub(crate) pieces: Items<Piece>,
     pub(crate) functions: Vec<Function>,
-    ghost accepted: { ∥ IsAccepted (program_from names main shared_cells private_cells locks barriers pieces functions.items) ∥₁ },
+    ghost accepted: { ∥ IsAccepted (program_from names main shared_cells private_cells locks
+        barriers pieces functions.items) ∥₁ },
 }
 
 impl Checked {
@@ -44,39 +45,11 @@ impl Checked {
         self.main
     }
 
-    /// The number of shared cells.
-    pub fn shared_cells(&self) -> u32
-        ensures { result ≡ (program_of self.now).shared_cells }
-    {
-        self.shared_cells
-    }
-
     /// The number of cells that each processor has of its own.
     pub fn private_cells(&self) -> u32
         ensures { result ≡ (program_of self.now).private_cells }
     {
         self.private_cells
-    }
-
-    /// The number of locks.
-    pub fn locks(&self) -> u16
-        ensures { result ≡ (program_of self.now).locks }
-    {
-        self.locks
-    }
-
-    /// The number of barriers.
-    pub fn barriers(&self) -> u8
-        ensures { result ≡ (program_of self.now).barriers }
-    {
-        self.barriers
-    }
-
-    /// The pieces, in the order of the text.
-    pub fn pieces(&self) -> &[Piece]
-        ensures { result.now ≡ (program_of self.now).pieces }
-    {
-        self.pieces.as_slice()
     }
 
     /// The functions, in the order of the text.
@@ -86,7 +59,7 @@ impl Checked {
         self.functions.as_slice()
     }
 
-    /// How the program is set up for 2 to 16 processors. `MemFault` comes for want of memory.
+    /// How the program is set up for 2 to 16 processors. `MemFault` comes out of memory.
     pub fn setup(&self, alloc: Global, procs: u8) -> Result<Setup, MemFault>
         requires { IsTrue (is_proc_count procs) }
         ensures { IfOk result (IsSetupOf (program_of self.now) procs) }

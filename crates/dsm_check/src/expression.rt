@@ -10,7 +10,8 @@ use crate::names::Named;
 use crate::refusal::{arg_count, wrong_kind};
 use crate::resolved::{Array, Expression, Location};
 use crate::scope::Scope;
-use dsm_syntax::{Expr, Name, Place, ProgErr, Returns, Sharing};
+use dsm_syntax as tree;
+use dsm_syntax::{Name, Place, ProgErr, Returns, Sharing};
 use std::alloc::Global;
 
 /// A single cell or a variable.
@@ -73,36 +74,36 @@ impl<'a> Scope<'a> {
 
     /// An expression whose value is needed.
     #[cycle(expression)]
-    pub fn expression(&self, e: &Expr) -> Result<Expression, ProgErr>
+    pub fn expression(&self, e: &tree::Expression) -> Result<Expression, ProgErr>
         ensures { Gives view result (resolve (scope_of self.now).names (tree.view e.now)) }
     {
         match e {
-            Expr::Number(value) => Ok(Expression::Number(*value)),
-            Expr::Place(place) => Ok(Expression::Load(self.place(place)?)),
-            Expr::Paren(inner) => self.expression(inner),
-            Expr::Call(name, arguments) => self.call(true, name, arguments),
-            Expr::Unary(op, line, operand) => {
+            tree::Expression::Number(value) => Ok(Expression::Number(*value)),
+            tree::Expression::Place(place) => Ok(Expression::Load(self.place(place)?)),
+            tree::Expression::Paren(inner) => self.expression(inner),
+            tree::Expression::Call(name, arguments) => self.call(true, name, arguments),
+            tree::Expression::Unary(op, line, operand) => {
                 let value = Box::new(self.alloc, self.expression(operand)?)?;
                 Ok(Expression::Unary(*op, *line, value))
             }
-            Expr::Prefix(op, line, place) => {
+            tree::Expression::Prefix(op, line, place) => {
                 Ok(Expression::Prefix(*op, *line, self.place(place)?))
             }
-            Expr::Postfix(place, op, line) => {
+            tree::Expression::Postfix(place, op, line) => {
                 Ok(Expression::Postfix(self.place(place)?, *op, *line))
             }
-            Expr::Binary(a, op, line, b) => {
+            tree::Expression::Binary(a, op, line, b) => {
                 let first = Box::new(self.alloc, self.expression(a)?)?;
                 let second = Box::new(self.alloc, self.expression(b)?)?;
                 Ok(Expression::Binary(first, *op, *line, second))
             }
-            Expr::Choice(test, _, then, other) => {
+            tree::Expression::Choice(test, _, then, other) => {
                 let test = Box::new(self.alloc, self.expression(test)?)?;
                 let then = Box::new(self.alloc, self.expression(then)?)?;
                 let other = Box::new(self.alloc, self.expression(other)?)?;
                 Ok(Expression::Choice(test, then, other))
             }
-            Expr::Assign(place, op, line, value) => {
+            tree::Expression::Assign(place, op, line, value) => {
                 let location = self.place(place)?;
                 let value = Box::new(self.alloc, self.expression(value)?)?;
                 Ok(Expression::Assign(location, *op, *line, value))
@@ -113,7 +114,8 @@ impl<'a> Scope<'a> {
     /// What is loaded and stored to.
     #[cycle(expression)]
     fn place(&self, place: &Place) -> Result<Location, ProgErr>
-        ensures { Gives view_location result (resolve_place (scope_of self.now).names (tree.view_place place.now)) }
+        ensures { Gives view_location result (resolve_place (scope_of self.now).names
+            (tree.view_place place.now)) }
     {
         match place {
             Place::Single(name) => as_single(self.alloc, name, self.used(name)?),
@@ -127,8 +129,9 @@ impl<'a> Scope<'a> {
 
     /// The arguments of a call.
     #[cycle(expression)]
-    fn arguments(&self, arguments: &[Expr]) -> Result<Vec<Expression>, ProgErr>
-        ensures { Gives (λ made. views made.items) result (resolve_all (scope_of self.now).names (tree.views arguments.now)) }
+    fn arguments(&self, arguments: &[tree::Expression]) -> Result<Vec<Expression>, ProgErr>
+        ensures { Gives (λ made. views made.items) result (resolve_all (scope_of self.now).names
+            (tree.views arguments.now)) }
     {
         let mut made = Vec::new(self.alloc);
         for argument in arguments {
@@ -140,8 +143,14 @@ impl<'a> Scope<'a> {
     /// A call, by whether its value is needed.
     #[cycle(expression)]
     #[tactic(auto, using(crate::proofs::Collections::counted, crate::proofs::Shown::view_call))]
-    fn call(&self, needed: bool, name: &Name, arguments: &[Expr]) -> Result<Expression, ProgErr>
-        ensures { Gives view result (resolve_call needed (scope_of self.now).names name.now (tree.views arguments.now)) }
+    fn call(
+        &self,
+        needed: bool,
+        name: &Name,
+        arguments: &[tree::Expression],
+    ) -> Result<Expression, ProgErr>
+        ensures { Gives view result (resolve_call needed (scope_of self.now).names name.now
+            (tree.views arguments.now)) }
     {
         let named = self.used(name)?;
         let function = as_called(self.alloc, needed, name, arguments.len(), named)?;
@@ -150,18 +159,22 @@ impl<'a> Scope<'a> {
     }
 
     /// An expression whose value isn't needed.
-    pub fn effect(&self, e: &Expr) -> Result<Expression, ProgErr>
+    pub fn effect(&self, e: &tree::Expression) -> Result<Expression, ProgErr>
         ensures { Gives view result (resolve_effect (scope_of self.now).names (tree.view e.now)) }
     {
         match e {
-            Expr::Call(name, arguments) => self.call(false, name, arguments),
+            tree::Expression::Call(name, arguments) => self.call(false, name, arguments),
             _ => self.expression(e),
         }
     }
 
     /// The expression, where there is one.
-    pub fn optional_expression(&self, e: &Option<Expr>) -> Result<Option<Expression>, ProgErr>
-        ensures { Gives (tree.option_view view) result (optional (resolve (scope_of self.now).names) (tree.option_view tree.view e.now)) }
+    pub fn optional_expression(
+        &self,
+        e: &Option<tree::Expression>,
+    ) -> Result<Option<Expression>, ProgErr>
+        ensures { Gives (tree.option_view view) result (optional (resolve (scope_of self.now).names)
+            (tree.option_view tree.view e.now)) }
     {
         match e {
             None => Ok(None),
@@ -170,8 +183,13 @@ impl<'a> Scope<'a> {
     }
 
     /// The expression, where there is one, whose value isn't needed.
-    pub fn optional_effect(&self, e: &Option<Expr>) -> Result<Option<Expression>, ProgErr>
-        ensures { Gives (tree.option_view view) result (optional (resolve_effect (scope_of self.now).names) (tree.option_view tree.view e.now)) }
+    pub fn optional_effect(
+        &self,
+        e: &Option<tree::Expression>,
+    ) -> Result<Option<Expression>, ProgErr>
+        ensures { Gives (tree.option_view view) result
+            (optional (resolve_effect (scope_of self.now).names)
+            (tree.option_view tree.view e.now)) }
     {
         match e {
             None => Ok(None),

@@ -106,7 +106,8 @@ impl Declared {
 
     fn cells(&mut self, alloc: Global, sharing: Sharing, cell: &Declarator) -> Result<(), ProgErr>
         requires { AreCounted self.old }
-        ensures value { Gives (λ _. names_of self.new.names) result (with_cells sharing (names_of self.old.names) cell.now) }
+        ensures value { Gives (λ _. names_of self.new.names) result
+            (with_cells sharing (names_of self.old.names) cell.now) }
         ensures counted { OnOk result (AreCounted self.new) }
     {
         self.test_new(alloc, &cell.name)?;
@@ -129,7 +130,8 @@ impl Declared {
 
     fn locks(&mut self, alloc: Global, lock: &Declarator) -> Result<(), ProgErr>
         requires { AreCounted self.old }
-        ensures value { Gives (λ _. names_of self.new.names) result (with_locks (names_of self.old.names) lock.now) }
+        ensures value { Gives (λ _. names_of self.new.names) result
+            (with_locks (names_of self.old.names) lock.now) }
         ensures counted { OnOk result (AreCounted self.new) }
     {
         self.test_new(alloc, &lock.name)?;
@@ -145,7 +147,8 @@ impl Declared {
 
     fn barrier(&mut self, alloc: Global, barrier: &Name) -> Result<(), ProgErr>
         requires { AreCounted self.old }
-        ensures value { Gives (λ _. names_of self.new.names) result (with_barrier (names_of self.old.names) barrier.now) }
+        ensures value { Gives (λ _. names_of self.new.names) result
+            (with_barrier (names_of self.old.names) barrier.now) }
         ensures counted { OnOk result (AreCounted self.new) }
     {
         self.test_new(alloc, barrier)?;
@@ -158,7 +161,8 @@ impl Declared {
 
     fn function(&mut self, alloc: Global, function: &Function) -> Result<(), ProgErr>
         requires { AreCounted self.old }
-        ensures value { Gives (λ _. names_of self.new.names) result (with_function (names_of self.old.names) (view_function function.now)) }
+        ensures value { Gives (λ _. names_of self.new.names) result
+            (with_function (names_of self.old.names) (view_function function.now)) }
         ensures counted { OnOk result (AreCounted self.new) }
     {
         self.test_new(alloc, &function.name)?;
@@ -182,7 +186,8 @@ impl Declared {
         cells: &[Declarator],
     ) -> Result<(), ProgErr>
         requires { AreCounted self.old }
-        ensures value { Gives (λ _. names_of self.new.names) result (each (with_cells sharing) (names_of self.old.names) cells.now) }
+        ensures value { Gives (λ _. names_of self.new.names) result
+            (each (with_cells sharing) (names_of self.old.names) cells.now) }
         ensures counted { OnOk result (AreCounted self.new) }
     {
         for cell in cells {
@@ -193,7 +198,8 @@ impl Declared {
 
     fn all_locks(&mut self, alloc: Global, locks: &[Declarator]) -> Result<(), ProgErr>
         requires { AreCounted self.old }
-        ensures value { Gives (λ _. names_of self.new.names) result (each with_locks (names_of self.old.names) locks.now) }
+        ensures value { Gives (λ _. names_of self.new.names) result
+            (each with_locks (names_of self.old.names) locks.now) }
         ensures counted { OnOk result (AreCounted self.new) }
     {
         for lock in locks {
@@ -204,7 +210,8 @@ impl Declared {
 
     fn all_barriers(&mut self, alloc: Global, barriers: &[Name]) -> Result<(), ProgErr>
         requires { AreCounted self.old }
-        ensures value { Gives (λ _. names_of self.new.names) result (each with_barrier (names_of self.old.names) barriers.now) }
+        ensures value { Gives (λ _. names_of self.new.names) result
+            (each with_barrier (names_of self.old.names) barriers.now) }
         ensures counted { OnOk result (AreCounted self.new) }
     {
         for barrier in barriers {
@@ -215,7 +222,8 @@ impl Declared {
 
     fn item(&mut self, alloc: Global, item: &Item) -> Result<(), ProgErr>
         requires { AreCounted self.old }
-        ensures value { Gives (λ _. names_of self.new.names) result (with_item (names_of self.old.names) (view_item item.now)) }
+        ensures value { Gives (λ _. names_of self.new.names) result
+            (with_item (names_of self.old.names) (view_item item.now)) }
         ensures counted { OnOk result (AreCounted self.new) }
     {
         match item {
@@ -229,7 +237,8 @@ impl Declared {
 
     /// The names that items declare, in the order of the text.
     pub fn from_items(alloc: Global, items: &[Item]) -> Result<Declared, ProgErr>
-        ensures value { Gives (λ declared. names_of declared.names) result (file_names (view_items items.now)) }
+        ensures value { Gives (λ declared. names_of declared.names) result
+            (file_names (view_items items.now)) }
         ensures counted { IfOk result AreCounted }
     {
         let mut declared = Declared::new(alloc);

@@ -12,7 +12,6 @@ mod refusal;
 mod resolved;
 mod rules;
 mod scope;
-mod stack;
 mod statement;
 
 pub use checked::Checked;

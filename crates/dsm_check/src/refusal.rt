@@ -52,7 +52,8 @@ pub fn twice(alloc: Global, name: &Name) -> ProgErr
 
 /// The refusal of a call with another number of arguments than parameters.
 pub fn arg_count(alloc: Global, name: &Name, given: usize, wanted: u8) -> ProgErr
-    ensures { (result ≡ Memory) ⊎ (result ≡ ArgCount name.now.text name.now.line (min given 4294967295) wanted) }
+    ensures { (result ≡ Memory) ⊎
+        (result ≡ ArgCount name.now.text name.now.line (min given 4294967295) wanted) }
 {
     match Text::from_slice(alloc, name.text.as_slice()) {
         Ok(text) => ProgErr::ArgCount {

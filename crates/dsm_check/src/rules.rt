@@ -47,7 +47,7 @@ fn main_of(names: &Names) -> Result<u16, ProgErr>
 /// - `BindRange` comes for a binding outside of what it names, with the binding's line.
 /// - `BindOverlap` comes for a binding of a cell that is bound already, with the first such cell and the binding's line.
 /// - `OutsideLoop` comes for `break` or `continue` outside a loop, with its line.
-/// - `Memory` comes for want of memory.
+/// - `Memory` comes where memory runs out.
 pub fn check(alloc: Global, tree: &Tree) -> Result<Checked, ProgErr>
     ensures accepted { IfOk result (λ c. checked (view_tree tree.now) ≡ Ok (program_of c)) }
     ensures refused { IfErr result (λ e. (e ≡ Memory) ⊎ (checked (view_tree tree.now) ≡ Err e)) }

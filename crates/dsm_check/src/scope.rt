@@ -10,8 +10,7 @@ ghost use Rattle.dsm_check.specs.Answers.{Gives};
 use crate::limits::within;
 use crate::names::{Named, Names};
 use crate::refusal::{twice, unknown};
-use crate::stack::Stack;
-use dsm_base::MemFault;
+use dsm_base::{MemFault, Stack};
 use dsm_syntax::{Name, ProgErr, Which};
 use std::alloc::Global;
 
@@ -102,7 +101,8 @@ impl<'a> Scope<'a> {
     /// Declares a variable, and gives its slot.
     pub fn declare(&mut self, name: &'a Name) -> Result<u8, ProgErr>
         requires { 1 ≤ blocks_in self.old.locals }
-        ensures value { Gives (λ _. scope_of self.new) result (with_variable (scope_of self.old) name.now) }
+        ensures value { Gives (λ _. scope_of self.new) result
+            (with_variable (scope_of self.old) name.now) }
         ensures slot { IfOk result (λ slot. slot ≡ self.old.slots) }
         ensures blocks { OnOk result (blocks_in self.new.locals ≡ blocks_in self.old.locals) }
     {
@@ -122,14 +122,14 @@ impl<'a> Scope<'a> {
         ensures value { OnOk result (scope_of self.new ≡ open_block (scope_of self.old)) }
         ensures blocks { OnOk result (blocks_in self.new.locals ≡ blocks_in self.old.locals + 1) }
     {
-        self.locals.push(Known::Opened)?;
-        Ok(())
+        self.locals.push(Known::Opened)
     }
 
     /// Closes the innermost block.
     pub fn close(&mut self)
         requires { 1 ≤ blocks_in self.old.locals }
-        ensures value { scope_of self.new ≡ record (scope_of self.old) { names = closed (scope_of self.old).names } }
+        ensures value { scope_of self.new ≡
+            record (scope_of self.old) { names = closed (scope_of self.old).names } }
         ensures blocks { blocks_in self.new.locals + 1 ≡ blocks_in self.old.locals }
     {
         while let Some(known) = self.locals.pop() {

@@ -19,7 +19,7 @@ use crate::resolved::{Array, Expression, ForStart, LockPlace, Part, Statement, V
 use crate::scope::Scope;
 use dsm_base::{Bar, Lock, Mode, Text};
 use dsm_syntax as tree;
-use dsm_syntax::{Expr, Name, Place, ProgErr, Returns, Stmt, Which};
+use dsm_syntax::{Name, Place, ProgErr, Returns, Which};
 use std::alloc::Global;
 
 /// A lock without an index.
@@ -77,7 +77,8 @@ pub struct Around<'a> {
 
 /// A statement that may only stand in a loop.
 fn in_loop(looped: bool, line: u32, statement: Statement) -> Result<Statement, ProgErr>
-    ensures { Gives view_statement result (if looped then Ok (view_statement statement) else Err (OutsideLoop line)) }
+    ensures { Gives view_statement result
+        (if looped then Ok (view_statement statement) else Err (OutsideLoop line)) }
 {
     if !looped {
         return Err(ProgErr::OutsideLoop { line });
@@ -91,7 +92,8 @@ impl<'a> Scope<'a> {
     /// A variable where it is declared.
     fn variable(&mut self, variable: &'a tree::Variable) -> Result<Variable, ProgErr>
         requires { 1 ≤ blocks_in self.old.locals }
-        ensures value { Gives (λ made. (view_variable made, scope_of self.new)) result (resolve_variable (scope_of self.old) (tree.view_variable variable.now)) }
+        ensures value { Gives (λ made. (view_variable made, scope_of self.new)) result
+            (resolve_variable (scope_of self.old) (tree.view_variable variable.now)) }
         ensures blocks { OnOk result (blocks_in self.new.locals ≡ blocks_in self.old.locals) }
     {
         let slot = self.declare(&variable.name)?;
@@ -105,7 +107,9 @@ impl<'a> Scope<'a> {
     /// Variables one after the other.
     fn variables(&mut self, variables: &'a [tree::Variable]) -> Result<Vec<Variable>, ProgErr>
         requires { 1 ≤ blocks_in self.old.locals }
-        ensures value { Gives (λ made. (map view_variable made.items, scope_of self.new)) result (each_made resolve_variable (scope_of self.old) (map tree.view_variable variables.now)) }
+        ensures value { Gives (λ made. (map view_variable made.items, scope_of self.new)) result
+            (each_made resolve_variable (scope_of self.old)
+            (map tree.view_variable variables.now)) }
         ensures blocks { OnOk result (blocks_in self.new.locals ≡ blocks_in self.old.locals) }
     {
         let mut made = Vec::new(self.alloc);
@@ -117,7 +121,8 @@ impl<'a> Scope<'a> {
 
     /// A lock that a statement names.
     fn lock(&self, place: &Place) -> Result<LockPlace, ProgErr>
-        ensures { Gives view_lock result (resolve_lock (scope_of self.now).names (tree.view_place place.now)) }
+        ensures { Gives view_lock result (resolve_lock (scope_of self.now).names
+            (tree.view_place place.now)) }
     {
         match place {
             Place::Single(name) => as_one_lock(self.alloc, name, self.used(name)?),
@@ -130,7 +135,8 @@ impl<'a> Scope<'a> {
 
     /// A part of a print.
     fn part(&self, part: &tree::Part) -> Result<Part, ProgErr>
-        ensures { Gives view_part result (resolve_part (scope_of self.now).names (tree.view_part part.now)) }
+        ensures { Gives view_part result (resolve_part (scope_of self.now).names
+            (tree.view_part part.now)) }
     {
         match part {
             tree::Part::Text(text) => {
@@ -142,7 +148,8 @@ impl<'a> Scope<'a> {
 
     /// The parts of a print.
     fn print(&self, parts: &[tree::Part]) -> Result<Vec<Part>, ProgErr>
-        ensures { Gives (λ made. map view_part made.items) result (resolve_print (scope_of self.now).names (map tree.view_part parts.now)) }
+        ensures { Gives (λ made. map view_part made.items) result
+            (resolve_print (scope_of self.now).names (map tree.view_part parts.now)) }
     {
         within(Which::PrintParts, 8, parts.len() as u64)?;
         within(Which::PrintText, 96, text_bytes(parts))?;
@@ -156,7 +163,8 @@ impl<'a> Scope<'a> {
     /// What stands first in the head of a `for`.
     fn start(&mut self, start: &'a tree::ForStart) -> Result<ForStart, ProgErr>
         requires { 1 ≤ blocks_in self.old.locals }
-        ensures value { Gives (λ made. (view_start made, scope_of self.new)) result (resolve_start (scope_of self.old) (tree.view_start start.now)) }
+        ensures value { Gives (λ made. (view_start made, scope_of self.new)) result
+            (resolve_start (scope_of self.old) (tree.view_start start.now)) }
         ensures blocks { OnOk result (blocks_in self.new.locals ≡ blocks_in self.old.locals) }
     {
         match start {
@@ -173,9 +181,10 @@ impl<'a> Scope<'a> {
         &self,
         around: Around<'a>,
         line: u32,
-        value: &Option<Expr>,
+        value: &Option<tree::Expression>,
     ) -> Result<Option<Expression>, ProgErr>
-        ensures { Gives (tree.option_view view) result (resolve_return (around_of around.entry) (scope_of self.now).names line (tree.option_view tree.view value.now)) }
+        ensures { Gives (tree.option_view view) result (resolve_return (around_of around.entry)
+            (scope_of self.now).names line (tree.option_view tree.view value.now)) }
     {
         if value.is_some() && is_void(around.returns) {
             return Err(wrong_kind_at(self.alloc, around.name, line));
@@ -189,10 +198,12 @@ impl<'a> Scope<'a> {
         &mut self,
         around: Around<'a>,
         looped: bool,
-        s: &'a Stmt,
+        s: &'a tree::Statement,
     ) -> Result<Box<Statement>, ProgErr>
         requires { 1 ≤ blocks_in self.old.locals }
-        ensures value { Gives (λ made. (view_statement made.value, scope_of self.new)) result (closing (resolve_statement (around_of around.entry) looped (open_block (scope_of self.old)) (tree.view_statement s.now))) }
+        ensures value { Gives (λ made. (view_statement made.value, scope_of self.new)) result
+            (closing (resolve_statement (around_of around.entry) looped
+            (open_block (scope_of self.old)) (tree.view_statement s.now))) }
         ensures blocks { OnOk result (blocks_in self.new.locals ≡ blocks_in self.old.locals) }
     {
         self.open()?;
@@ -208,12 +219,15 @@ impl<'a> Scope<'a> {
         &mut self,
         around: Around<'a>,
         start: &'a tree::ForStart,
-        test: &'a Option<Expr>,
-        step: &'a Option<Expr>,
-        body: &'a Stmt,
+        test: &'a Option<tree::Expression>,
+        step: &'a Option<tree::Expression>,
+        body: &'a tree::Statement,
     ) -> Result<Statement, ProgErr>
         requires { 1 ≤ blocks_in self.old.locals }
-        ensures value { Gives (λ made. (view_statement made, scope_of self.new)) result (resolve_statement (around_of around.entry) false (scope_of self.old) (t.for (tree.view_start start.now) (tree.option_view tree.view test.now) (tree.option_view tree.view step.now) (tree.view_statement body.now))) }
+        ensures value { Gives (λ made. (view_statement made, scope_of self.new)) result
+            (resolve_statement (around_of around.entry) false (scope_of self.old)
+            (t.for (tree.view_start start.now) (tree.option_view tree.view test.now)
+            (tree.option_view tree.view step.now) (tree.view_statement body.now))) }
         ensures blocks { OnOk result (blocks_in self.new.locals ≡ blocks_in self.old.locals) }
     {
         self.open()?;
@@ -231,10 +245,12 @@ impl<'a> Scope<'a> {
         &mut self,
         around: Around<'a>,
         looped: bool,
-        statements: &'a [Stmt],
+        statements: &'a [tree::Statement],
     ) -> Result<Vec<Statement>, ProgErr>
         requires { 1 ≤ blocks_in self.old.locals }
-        ensures value { Gives (λ made. (view_statements made.items, scope_of self.new)) result (resolve_statements (around_of around.entry) looped (scope_of self.old) (tree.view_statements statements.now)) }
+        ensures value { Gives (λ made. (view_statements made.items, scope_of self.new)) result
+            (resolve_statements (around_of around.entry) looped (scope_of self.old)
+            (tree.view_statements statements.now)) }
         ensures blocks { OnOk result (blocks_in self.new.locals ≡ blocks_in self.old.locals) }
     {
         let mut made = Vec::new(self.alloc);
@@ -250,10 +266,12 @@ impl<'a> Scope<'a> {
         &mut self,
         around: Around<'a>,
         looped: bool,
-        statements: &'a [Stmt],
+        statements: &'a [tree::Statement],
     ) -> Result<Statement, ProgErr>
         requires { 1 ≤ blocks_in self.old.locals }
-        ensures value { Gives (λ made. (view_statement made, scope_of self.new)) result (resolve_statement (around_of around.entry) looped (scope_of self.old) (t.block (tree.view_statements statements.now))) }
+        ensures value { Gives (λ made. (view_statement made, scope_of self.new)) result
+            (resolve_statement (around_of around.entry) looped (scope_of self.old)
+            (t.block (tree.view_statements statements.now))) }
         ensures blocks { OnOk result (blocks_in self.new.locals ≡ blocks_in self.old.locals) }
     {
         self.open()?;
@@ -268,45 +286,57 @@ impl<'a> Scope<'a> {
         &mut self,
         around: Around<'a>,
         looped: bool,
-        s: &'a Stmt,
+        s: &'a tree::Statement,
     ) -> Result<Statement, ProgErr>
         requires { 1 ≤ blocks_in self.old.locals }
-        ensures value { Gives (λ made. (view_statement made, scope_of self.new)) result (resolve_statement (around_of around.entry) looped (scope_of self.old) (tree.view_statement s.now)) }
+        ensures value { Gives (λ made. (view_statement made, scope_of self.new)) result
+            (resolve_statement (around_of around.entry) looped (scope_of self.old)
+            (tree.view_statement s.now)) }
         ensures blocks { OnOk result (blocks_in self.new.locals ≡ blocks_in self.old.locals) }
     {
         match s {
-            Stmt::Block(statements) => self.block(around, looped, statements),
-            Stmt::Empty => Ok(Statement::Empty),
-            Stmt::Variables(variables) => Ok(Statement::Variables(self.variables(variables)?)),
-            Stmt::Expression(e) => Ok(Statement::Expression(self.effect(e)?)),
-            Stmt::If(test, body) => {
+            tree::Statement::Block(statements) => self.block(around, looped, statements),
+            tree::Statement::Empty => Ok(Statement::Empty),
+            tree::Statement::Variables(variables) => Ok(Statement::Variables(self.variables(
+                variables,
+            )?)),
+            tree::Statement::Expression(e) => Ok(Statement::Expression(self.effect(e)?)),
+            tree::Statement::If(test, body) => {
                 let test = self.expression(test)?;
                 Ok(Statement::If(test, self.inner(around, looped, body)?))
             }
-            Stmt::IfElse(test, body, other) => {
+            tree::Statement::IfElse(test, body, other) => {
                 let test = self.expression(test)?;
                 let body = self.inner(around, looped, body)?;
                 let other = self.inner(around, looped, other)?;
                 Ok(Statement::IfElse(test, body, other))
             }
-            Stmt::While(test, body) => {
+            tree::Statement::While(test, body) => {
                 let test = self.expression(test)?;
                 Ok(Statement::While(test, self.inner(around, true, body)?))
             }
-            Stmt::For(start, test, step, body) => self.for_loop(around, start, test, step, body),
-            Stmt::Break { line } => in_loop(looped, *line, Statement::Break),
-            Stmt::Continue { line } => in_loop(looped, *line, Statement::Continue),
-            Stmt::Return { line, value } => {
+            tree::Statement::For(start, test, step, body) => self.for_loop(
+                around, start, test, step, body,
+            ),
+            tree::Statement::Break { line } => in_loop(looped, *line, Statement::Break),
+            tree::Statement::Continue { line } => in_loop(looped, *line, Statement::Continue),
+            tree::Statement::Return { line, value } => {
                 Ok(Statement::Return(self.returned(around, *line, value)?))
             }
-            Stmt::Acquire(place) => Ok(Statement::Acquire(self.lock(place)?, Mode::Excl)),
-            Stmt::AcquireShared(place) => Ok(Statement::Acquire(self.lock(place)?, Mode::Shared)),
-            Stmt::Release(place) => Ok(Statement::Release(self.lock(place)?)),
-            Stmt::Barrier(name) => {
+            tree::Statement::Acquire(place) => Ok(Statement::Acquire(
+                self.lock(place)?,
+                Mode::Excl,
+            )),
+            tree::Statement::AcquireShared(place) => Ok(Statement::Acquire(
+                self.lock(place)?,
+                Mode::Shared,
+            )),
+            tree::Statement::Release(place) => Ok(Statement::Release(self.lock(place)?)),
+            tree::Statement::Barrier(name) => {
                 let number = as_barrier(self.alloc, name, self.used(name)?)?;
                 Ok(Statement::Barrier(Bar(number)))
             }
-            Stmt::Print(parts) => Ok(Statement::Print(self.print(parts)?)),
+            tree::Statement::Print(parts) => Ok(Statement::Print(self.print(parts)?)),
         }
     }
 }

@@ -6,9 +6,10 @@ use Rattle.std.proofs.lemmas.Fmt.{decimal_by_steps, length-decimal-le}
 use Rattle.dsm_syntax.specs.Bytes.{is_string_byte}
 use Rattle.dsm_syntax.specs.Sound.{is_sound_string}
 use Rattle.dsm_check.specs.Resolved as r
-use Rattle.dsm_check.specs.SemanticsWithin.{Extent, ArePartsWithin, most_bytes, IsPrintWithin}
+use Rattle.dsm_semantics.specs.Within.{Extent, ArePartsWithin, most_bytes, IsPrintWithin}
 use Rattle.dsm_check.proofs.Successes.{both_true}
-use Rattle.dsm_interpreter.specs.Lines.{ArePrintable, IsLine, Grows}
+use Rattle.dsm_base.specs.Output.{ArePrintable, IsLine}
+use Rattle.dsm_interpreter.specs.Lines.{Grows}
 
 both_printable : (text more : List ℕ) → ArePrintable text → ArePrintable more → ArePrintable (text ++ more)
 both_printable [] more p q = q

@@ -2,14 +2,14 @@
 use Rattle.std.proofs.Common.{◌≡◌, ◌<◌, List, [], Option, Some, None, refl, sym, ap, ◌∙◌, subst}
 use Rattle.dsm_base.specs.declared.label.Want.{Want}
 use Rattle.dsm_check.specs.Resolved as r
-use Rattle.dsm_check.specs.SemanticsSteps.{Move, goes, asks, want_of}
-use Rattle.dsm_check.specs.SemanticsItems.{State}
-use Rattle.dsm_check.specs.SemanticsWeights.{weight}
-use Rattle.dsm_check.specs.SemanticsWithin.{Extent, IsStateWithin}
-use Rattle.dsm_check.specs.Semantics.{step, ready}
-use Rattle.dsm_check.proofs.StepsSettle.{Falls, settled_goes, settled_asks}
-use Rattle.dsm_check.proofs.SemanticsFalls.{weight_at, step_falls}
-use Rattle.dsm_check.proofs.SemanticsNames.{goes_within}
+use Rattle.dsm_base.specs.Steps.{Move, goes, asks, want_of}
+use Rattle.dsm_semantics.specs.States.{State}
+use Rattle.dsm_semantics.specs.Weights.{weight}
+use Rattle.dsm_semantics.specs.Within.{Extent, IsStateWithin}
+use Rattle.dsm_semantics.specs.Semantics.{step, ready}
+use Rattle.dsm_base.proofs.StepsSettle.{Falls, settled_goes, settled_asks}
+use Rattle.dsm_semantics.proofs.Falls.{weight_at, step_falls}
+use Rattle.dsm_semantics.proofs.Within.{goes_within}
 use Rattle.dsm_interpreter.specs.Threads.{Makes}
 
 module _ (old new : State) (told : Option Want) (makes : (functions : List r.Function) → Makes (step functions old) old new told) where

@@ -5,7 +5,7 @@ use Rattle.std.specs.Ordering.{int_eq}
 use Rattle.std.specs.Int.{CanDivide}
 use Rattle.std.proofs.lemmas.Int.{quot-rem, ints, to_z-of_z}
 use Rattle.std.proofs.lemmas.Bool.Decides.{nat_tests}
-use Rattle.dsm_check.specs.SemanticsValues.{fits_64_bits, unless_zero, remainder, Outcome}
+use Rattle.dsm_semantics.specs.Values.{fits_64_bits, unless_zero, remainder, Outcome}
 
 -- a remainder is what the quotient leaves
 remainder_is : (a d : ℤ) → a -ℤ int_div a d *ℤ d ≡ int_rem a d

@@ -1,4 +1,3 @@
 pub mod Threads
 pub mod Sound
-pub mod Finished
 pub mod Lines

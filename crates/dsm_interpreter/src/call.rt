@@ -2,19 +2,18 @@
 
 ghost use Rattle.std.specs.Prelude.{◌≡◌, ℤ, [], ◌∷◌, map, slice_get, OnOk, OnSome, IfOk, Some};
 ghost use Rattle.dsm_check.specs.Views.{view_function};
-ghost use Rattle.dsm_check.specs.SemanticsSteps.{next_of};
-ghost use Rattle.dsm_check.specs.Semantics;
+ghost use Rattle.dsm_base.specs.Steps.{next_of};
+ghost use Rattle.dsm_semantics.specs.Semantics;
 ghost use Rattle.dsm_check.specs.Resolved as r;
-ghost use Rattle.dsm_check.specs.Semantics.{numbered};
-ghost use Rattle.dsm_check.specs.SemanticsItems.{run, over};
-ghost use Rattle.dsm_interpreter.specs.Finished.{return_finished};
-ghost use Rattle.dsm_interpreter.specs.Threads.{Makes, callee_of, state_of, frame_of, life_of};
+ghost use Rattle.dsm_semantics.specs.Semantics.{numbered};
+ghost use Rattle.dsm_semantics.specs.States.{run, over};
+ghost use Rattle.dsm_semantics.specs.Finished.{return_finished};
+ghost use Rattle.dsm_interpreter.specs.Threads.{Becomes, Steps, callee_of, frame_of, over_of};
 
-use crate::frame::{Frame, Life};
+use crate::execution::Execution;
+use crate::frame::{Frame, Over};
 use crate::item::Item;
-use crate::stack::Stack;
-use crate::thread::PlainThread;
-use dsm_base::{Fault, MemFault, Want};
+use dsm_base::{Fault, MemFault, Stack, Want};
 use dsm_check::{Function, Statement};
 use std::alloc::Global;
 use std::mem;
@@ -50,7 +49,8 @@ pub fn callee_at<'a>(functions: &'a [Function], number: u16) -> Callee<'a>
 
 /// The slots of a function that is entered: its arguments, and zeros.
 pub fn new_slots(alloc: Global, callee: Callee<'_>, arguments: &[i64]) -> Result<Vec<i64>, MemFault>
-    ensures { IfOk result (λ slots. slots.items ≡ Semantics.new_slots (callee_of callee.entry) arguments.now) }
+    ensures { IfOk result (λ slots.
+        slots.items ≡ Semantics.new_slots (callee_of callee.entry) arguments.now) }
 {
     let mut slots = Vec::from_slice(alloc, arguments)?;
     let missing = usize::from(callee.slots).saturating_sub(arguments.len());
@@ -66,7 +66,12 @@ pub fn new_frame<'a>(
     callee: Callee<'a>,
     arguments: &[i64],
 ) -> Result<Frame<'a>, MemFault>
-    ensures { IfOk result (λ frame. frame_of frame ≡ record { todo = run (callee_of callee.entry).body ∷ []; operands = []; slots = Semantics.new_slots (callee_of callee.entry) arguments.now }) }
+    ensures { IfOk result (λ frame.
+        frame_of frame ≡ record {
+          todo = run (callee_of callee.entry).body ∷ [];
+          operands = [];
+          slots = Semantics.new_slots (callee_of callee.entry) arguments.now;
+        }) }
 {
     let mut todo = Stack::new(alloc);
     todo.push(Item::Run(callee.body))?;
@@ -77,10 +82,11 @@ pub fn new_frame<'a>(
     })
 }
 
-impl<'a> PlainThread<'a> {
+impl<'a> Execution<'a> {
     /// Wants to enter a function, where it isn't one too many.
     pub fn enter(&self, line: u32) -> Want
-        ensures { (function : r.Function) → Makes (Semantics.entering (state_of self.now) line function) (state_of self.now) (state_of self.now) (Some result) }
+        ensures { (function : r.Function) →
+            Steps self.now self.now (λ s. Semantics.entering s line function) (Some result) }
     {
         if self.outer.len() < MOST_DEPTH - 1 {
             Want::Quiet
@@ -91,7 +97,8 @@ impl<'a> PlainThread<'a> {
 
     /// Enters the function of a number.
     pub fn finish_enter(&mut self, functions: &'a [Function], number: u16) -> Result<(), MemFault>
-        ensures { OnOk result (state_of self.new ≡ Semantics.entered (state_of self.old) (numbered (slice_get (map view_function functions.now) number))) }
+        ensures { OnOk result (Becomes self.old self.new (λ s.
+            Semantics.entered s (numbered (slice_get (map view_function functions.now) number)))) }
     {
         let callee = callee_at(functions, number);
         let count = usize::from(callee.params);
@@ -103,7 +110,8 @@ impl<'a> PlainThread<'a> {
 
     /// Wants to leave the innermost function.
     pub fn leave(&self) -> Want
-        ensures { (value : ℤ) → Makes (Semantics.returns (state_of self.now) value (state_of self.now).outer) (state_of self.now) (state_of self.now) (Some result) }
+        ensures { (value : ℤ) → Steps self.now self.now (λ s. Semantics.returns s value s.outer)
+            (Some result) }
     {
         if self.outer.len() == 0 {
             Want::End
@@ -114,11 +122,11 @@ impl<'a> PlainThread<'a> {
 
     /// Leaves the innermost function with a value; where it is main, the thread has ended.
     pub fn finish_leave(&mut self, value: i64) -> Result<(), MemFault>
-        ensures { OnOk result (state_of self.new ≡ return_finished (state_of self.old) value (state_of self.old).outer) }
+        ensures { OnOk result (Becomes self.old self.new (λ s. return_finished s value s.outer)) }
     {
         match self.outer.pop() {
             None => {
-                self.end(Life::Ended);
+                self.end(Over::Ended);
                 Ok(())
             }
             Some(caller) => {
@@ -129,13 +137,13 @@ impl<'a> PlainThread<'a> {
     }
 
     /// The thread is over; only its private cells are left.
-    pub fn end(&mut self, life: Life)
-        ensures { state_of self.new ≡ over (state_of self.old) (life_of life) }
+    pub fn end(&mut self, way: Over)
+        ensures { Becomes self.old self.new (λ s. over s (over_of way)) }
     {
         self.frame.todo.clear();
         self.frame.operands.clear();
         self.frame.slots.clear();
         self.outer.clear();
-        self.life = life;
+        self.life = Some(way);
     }
 }

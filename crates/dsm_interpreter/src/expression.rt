@@ -2,25 +2,26 @@
 
 ghost use Rattle.std.specs.Prelude.{◌≡◌, [], None, OnOk, IfOk};
 ghost use Rattle.dsm_check.specs.Views.{view, view_location, views};
-ghost use Rattle.dsm_check.specs.SemanticsItems.{and_then, or_else, to_truth, choose, top, below};
-ghost use Rattle.dsm_check.specs.SemanticsValues;
-ghost use Rattle.dsm_check.specs.SemanticsSteps.{goes};
-ghost use Rattle.dsm_check.specs.Semantics;
+ghost use Rattle.dsm_semantics.specs.States.{and_then, or_else, to_truth, choose, top, below};
+ghost use Rattle.dsm_semantics.specs.Values;
+ghost use Rattle.dsm_semantics.specs.Semantics;
 ghost use Rattle.dsm_check.specs.Resolved as r;
-ghost use Rattle.dsm_interpreter.specs.Threads.{Makes, state_of};
+ghost use Rattle.dsm_interpreter.specs.Threads.{Becomes, Steps, state_in};
 
+use crate::execution::Execution;
 use crate::item::{Item, Use};
 use crate::location::place;
-use crate::thread::PlainThread;
+use crate::operands::{pop_value, top_value, value_below};
 use crate::value::{binary_value, step_value, unary_value};
 use dsm_base::{Fault, MemFault, Want};
 use dsm_check::{Expression, Location};
 use dsm_syntax::{AssignOp, BinaryOp, StepOp, UnaryOp};
 
-impl<'a> PlainThread<'a> {
+impl<'a> Execution<'a> {
     /// Begins an expression.
     pub fn evaluate(&mut self, e: &'a Expression) -> Result<(), MemFault>
-        ensures { OnOk result (Makes (Semantics.evaluation (state_of self.old) (view e.now)) (state_of self.old) (state_of self.new) None) }
+        ensures { OnOk result (Steps self.old self.new (λ s.
+            Semantics.evaluation s (view e.now)) None) }
     {
         match e {
             Expression::Number(n) => self.frame.operands.push(*n),
@@ -58,7 +59,8 @@ impl<'a> PlainThread<'a> {
     }
 
     fn step_before(&mut self, op: StepOp, line: u32, location: &'a Location) -> Result<(), MemFault>
-        ensures { OnOk result (goes (state_of self.new) ≡ Semantics.evaluation (state_of self.old) (r.prefix op line (view_location location.now))) }
+        ensures { OnOk result (Steps self.old self.new (λ s.
+            Semantics.evaluation s (r.prefix op line (view_location location.now))) None) }
     {
         self.frame.todo.push(Item::Store(place(location)))?;
         self.frame.todo.push(Item::StepBy(op, line))?;
@@ -69,7 +71,8 @@ impl<'a> PlainThread<'a> {
     }
 
     fn step_behind(&mut self, location: &'a Location, op: StepOp, line: u32) -> Result<(), MemFault>
-        ensures { OnOk result (goes (state_of self.new) ≡ Semantics.evaluation (state_of self.old) (r.postfix (view_location location.now) op line)) }
+        ensures { OnOk result (Steps self.old self.new (λ s.
+            Semantics.evaluation s (r.postfix (view_location location.now) op line)) None) }
     {
         self.frame.todo.push(Item::Discard)?;
         self.frame.todo.push(Item::Store(place(location)))?;
@@ -82,7 +85,8 @@ impl<'a> PlainThread<'a> {
 
     /// What comes behind the first operand.
     fn second(&mut self, op: BinaryOp, line: u32, e: &'a Expression) -> Result<(), MemFault>
-        ensures { OnOk result (state_of self.new ≡ record (state_of self.old) { todo = Semantics.second op line (view e.now) (state_of self.old).todo }) }
+        ensures { OnOk result (Becomes self.old self.new (λ s.
+            record s { todo = Semantics.second op line (view e.now) s.todo })) }
     {
         match op {
             BinaryOp::And => self.frame.todo.push(Item::AndThen(e)),
@@ -102,7 +106,11 @@ impl<'a> PlainThread<'a> {
         line: u32,
         e: &'a Expression,
     ) -> Result<(), MemFault>
-        ensures { OnOk result (state_of self.new ≡ record (state_of self.old) { todo = Semantics.assigning (SemanticsValues.operator_of op) line (Semantics.place_of (view_location location.now)) (view e.now) (state_of self.old).todo }) }
+        ensures { OnOk result (Becomes self.old self.new (λ s.
+            record s {
+              todo = Semantics.assigning (Values.operator_of op) line
+                  (Semantics.place_of (view_location location.now)) (view e.now) s.todo;
+            })) }
     {
         let place = place(location);
         self.frame.todo.push(Item::Store(place))?;
@@ -118,7 +126,8 @@ impl<'a> PlainThread<'a> {
 
     /// Evaluates arguments from the left.
     pub fn evaluate_all(&mut self, arguments: &'a [Expression]) -> Result<(), MemFault>
-        ensures { OnOk result (Makes (Semantics.evaluation_of_all (state_of self.old) (views arguments.now)) (state_of self.old) (state_of self.new) None) }
+        ensures { OnOk result (Steps self.old self.new (λ s.
+            Semantics.evaluation_of_all s (views arguments.now)) None) }
     {
         match arguments.split_first() {
             None => Ok(()),
@@ -130,28 +139,33 @@ impl<'a> PlainThread<'a> {
     }
 
     pub fn unary(&mut self, op: UnaryOp, line: u32) -> Result<Option<Want>, MemFault>
-        ensures { IfOk result (λ wanted. Makes (Semantics.comes_to (state_of self.old) (below (state_of self.old).operands) line (SemanticsValues.unary_value op (top (state_of self.old).operands))) (state_of self.old) (state_of self.new) wanted) }
+        ensures { IfOk result (Steps self.old self.new (λ s.
+            Semantics.comes_to s (below s.operands) line
+            (Values.unary_value op (top s.operands)))) }
     {
-        let outcome = unary_value(op, self.frame.operands.value());
+        let outcome = unary_value(op, top_value(&self.frame.operands));
         self.come_to(line, outcome)
     }
 
     pub fn step_by(&mut self, op: StepOp, line: u32) -> Result<Option<Want>, MemFault>
-        ensures { IfOk result (λ wanted. Makes (Semantics.comes_to (state_of self.old) (below (state_of self.old).operands) line (SemanticsValues.step_value op (top (state_of self.old).operands))) (state_of self.old) (state_of self.new) wanted) }
+        ensures { IfOk result (Steps self.old self.new (λ s.
+            Semantics.comes_to s (below s.operands) line (Values.step_value op (top s.operands)))) }
     {
-        let outcome = step_value(op, self.frame.operands.value());
+        let outcome = step_value(op, top_value(&self.frame.operands));
         self.come_to(line, outcome)
     }
 
     pub fn binary(&mut self, op: BinaryOp, line: u32) -> Result<Option<Want>, MemFault>
-        ensures { IfOk result (λ wanted. Makes (Semantics.comes_to (state_of self.old) (below (below (state_of self.old).operands)) line (SemanticsValues.binary_value op (top (below (state_of self.old).operands)) (top (state_of self.old).operands))) (state_of self.old) (state_of self.new) wanted) }
+        ensures { IfOk result (Steps self.old self.new (λ s.
+            Semantics.comes_to s (below (below s.operands)) line
+            (Values.binary_value op (top (below s.operands)) (top s.operands)))) }
     {
-        let a = self.frame.operands.value_below();
-        let b = self.frame.operands.value();
+        let a = value_below(&self.frame.operands);
+        let b = top_value(&self.frame.operands);
         match binary_value(op, a, b) {
             Ok(value) => {
-                self.frame.operands.pop_value();
-                self.frame.operands.pop_value();
+                pop_value(&mut self.frame.operands);
+                pop_value(&mut self.frame.operands);
                 self.frame.operands.push(value)?;
                 Ok(None)
             }
@@ -161,11 +175,12 @@ impl<'a> PlainThread<'a> {
 
     /// Puts what an operator came to in place of the value on top.
     fn come_to(&mut self, line: u32, outcome: Result<i64, Fault>) -> Result<Option<Want>, MemFault>
-        ensures { IfOk result (λ wanted. Makes (Semantics.comes_to (state_of self.old) (below (state_of self.old).operands) line outcome) (state_of self.old) (state_of self.new) wanted) }
+        ensures { IfOk result (Steps self.old self.new (λ s.
+            Semantics.comes_to s (below s.operands) line outcome)) }
     {
         match outcome {
             Ok(value) => {
-                self.frame.operands.pop_value();
+                pop_value(&mut self.frame.operands);
                 self.frame.operands.push(value)?;
                 Ok(None)
             }
@@ -175,15 +190,16 @@ impl<'a> PlainThread<'a> {
 
     /// Takes the value on top, and tells whether it holds as a condition.
     pub fn pop_condition(&mut self) -> bool
-        ensures value { result ≡ SemanticsValues.holds (top (state_of self.old).operands) }
-        ensures state { state_of self.new ≡ record (state_of self.old) { operands = below (state_of self.old).operands } }
+        ensures value { result ≡ Values.holds (top (state_in self.old).operands) }
+        ensures state { Becomes self.old self.new (λ s. record s { operands = below s.operands }) }
     {
-        self.frame.operands.pop_value() != 0
+        pop_value(&mut self.frame.operands) != 0
     }
 
     /// The second operand of `&&`, where the first holds.
     pub fn and_then(&mut self, e: &'a Expression) -> Result<(), MemFault>
-        ensures { OnOk result (Makes (Semantics.act [] (state_of self.old) (and_then (view e.now))) (state_of self.old) (state_of self.new) None) }
+        ensures { OnOk result (Steps self.old self.new (λ s.
+            Semantics.act [] s (and_then (view e.now))) None) }
     {
         if self.pop_condition() {
             self.frame.todo.push(Item::ToTruth)?;
@@ -195,7 +211,8 @@ impl<'a> PlainThread<'a> {
 
     /// The second operand of `||`, where the first doesn't hold.
     pub fn or_else(&mut self, e: &'a Expression) -> Result<(), MemFault>
-        ensures { OnOk result (Makes (Semantics.act [] (state_of self.old) (or_else (view e.now))) (state_of self.old) (state_of self.new) None) }
+        ensures { OnOk result (Steps self.old self.new (λ s.
+            Semantics.act [] s (or_else (view e.now))) None) }
     {
         if self.pop_condition() {
             self.frame.operands.push(1)
@@ -206,14 +223,15 @@ impl<'a> PlainThread<'a> {
     }
 
     pub fn to_truth(&mut self) -> Result<(), MemFault>
-        ensures { OnOk result (Makes (Semantics.act [] (state_of self.old) to_truth) (state_of self.old) (state_of self.new) None) }
+        ensures { OnOk result (Steps self.old self.new (λ s. Semantics.act [] s to_truth) None) }
     {
         let value = i64::from(self.pop_condition());
         self.frame.operands.push(value)
     }
 
     pub fn choose(&mut self, a: &'a Expression, b: &'a Expression) -> Result<(), MemFault>
-        ensures { OnOk result (Makes (Semantics.act [] (state_of self.old) (choose (view a.now) (view b.now))) (state_of self.old) (state_of self.new) None) }
+        ensures { OnOk result (Steps self.old self.new (λ s.
+            Semantics.act [] s (choose (view a.now) (view b.now))) None) }
     {
         if self.pop_condition() {
             self.frame.todo.push(Item::Evaluate(a))
@@ -225,7 +243,7 @@ impl<'a> PlainThread<'a> {
 
 /// The operator of an assignment that changes what is there.
 fn operator_of(op: AssignOp) -> Option<BinaryOp>
-    ensures { result ≡ SemanticsValues.operator_of op }
+    ensures { result ≡ Values.operator_of op }
 {
     match op {
         AssignOp::Set => None,

@@ -2,12 +2,13 @@
 
 ghost use Rattle.std.specs.Prelude.{◌≡◌, map, drop, OnOk};
 ghost use Rattle.dsm_check.specs.Views.{view_function, view_part, view_statement};
-ghost use Rattle.dsm_check.specs.Semantics;
-ghost use Rattle.dsm_interpreter.specs.Finished.{all_finished, finished, load_finished, store_finished, statement_finished};
-ghost use Rattle.dsm_interpreter.specs.Threads.{state_of, item_of, place_of, use_of};
+ghost use Rattle.dsm_semantics.specs.Semantics;
+ghost use Rattle.dsm_semantics.specs.Finished.{all_finished, finished, load_finished, store_finished, statement_finished};
+ghost use Rattle.dsm_interpreter.specs.Threads.{Becomes, item_of, place_of, use_of};
 
+use crate::execution::Execution;
 use crate::item::{Item, LoopStage, Place, Use};
-use crate::thread::PlainThread;
+use crate::operands::top_value;
 use dsm_base::MemFault;
 use dsm_check::{Function, Part, Statement};
 
@@ -24,10 +25,11 @@ pub fn values_in(parts: &[Part]) -> usize
     count
 }
 
-impl<'a> PlainThread<'a> {
+impl<'a> Execution<'a> {
     /// Completes the step that is wanted; the answer is the value of a load.
     pub fn finish(&mut self, functions: &'a [Function], answer: i64) -> Result<(), MemFault>
-        ensures { OnOk result (state_of self.new ≡ all_finished (map view_function functions.now) (state_of self.old) (state_of self.old).todo answer) }
+        ensures { OnOk result (Becomes self.old self.new (λ s.
+            all_finished (map view_function functions.now) s s.todo answer)) }
     {
         match self.frame.todo.pop() {
             None => self.finish_leave(0),
@@ -41,7 +43,8 @@ impl<'a> PlainThread<'a> {
         item: Item<'a>,
         answer: i64,
     ) -> Result<(), MemFault>
-        ensures { OnOk result (state_of self.new ≡ finished (map view_function functions.now) (state_of self.old) (item_of item.entry) answer) }
+        ensures { OnOk result (Becomes self.old self.new (λ s.
+            finished (map view_function functions.now) s (item_of item.entry) answer)) }
     {
         match item {
             Item::Load(place, way) => self.finish_load(place, way, answer),
@@ -52,7 +55,7 @@ impl<'a> PlainThread<'a> {
                 self.frame.todo.push(Item::Go(LoopStage::Round, looping))
             }
             Item::Leave => {
-                let value = self.frame.operands.value();
+                let value = top_value(&self.frame.operands);
                 self.finish_leave(value)
             }
             Item::Ask(lock, mode) => self.frame.todo.push(Item::Take(lock, mode)),
@@ -69,7 +72,8 @@ impl<'a> PlainThread<'a> {
     }
 
     fn finish_load(&mut self, place: Place, way: Use, answer: i64) -> Result<(), MemFault>
-        ensures { OnOk result (state_of self.new ≡ load_finished (state_of self.old) (use_of way) (place_of place) answer) }
+        ensures { OnOk result (Becomes self.old self.new (λ s.
+            load_finished s (use_of way) (place_of place) answer)) }
     {
         match place {
             Place::Slot(_) => Ok(()),
@@ -79,7 +83,7 @@ impl<'a> PlainThread<'a> {
     }
 
     fn finish_store(&mut self, place: Place) -> Result<(), MemFault>
-        ensures { OnOk result (state_of self.new ≡ store_finished (state_of self.old) (place_of place)) }
+        ensures { OnOk result (Becomes self.old self.new (λ s. store_finished s (place_of place))) }
     {
         match place {
             Place::Slot(_) | Place::Cell(_, _, _) => Ok(()),
@@ -88,7 +92,8 @@ impl<'a> PlainThread<'a> {
     }
 
     fn finish_statement(&mut self, statement: &'a Statement) -> Result<(), MemFault>
-        ensures { OnOk result (state_of self.new ≡ statement_finished (state_of self.old) (view_statement statement.now)) }
+        ensures { OnOk result (Becomes self.old self.new (λ s.
+            statement_finished s (view_statement statement.now))) }
     {
         match statement {
             Statement::Barrier(bar) => self.frame.todo.push(Item::Cross(*bar)),

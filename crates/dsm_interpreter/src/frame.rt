@@ -1,8 +1,7 @@
 //! A function that is under way.
 
 use crate::item::Item;
-use crate::stack::Stack;
-use dsm_base::Fault;
+use dsm_base::{Fault, Stack};
 
 /// A function that is under way: what remains to be done of it, the values that its expressions have
 /// left, and those of its slots.
@@ -13,10 +12,11 @@ pub struct Frame<'a> {
     pub slots: Vec<i64>,
 }
 
-/// Whether a thread is over, and how.
+/// How a thread came to be over.
 #[derive(Clone, Copy)]
-pub enum Life {
-    Going,
+pub enum Over {
+    /// Its `main` has returned.
     Ended,
+    /// It has stopped, at a line of the source.
     Stopped(Fault, u32),
 }

@@ -2,14 +2,15 @@
 #![tactic(auto)]
 
 mod call;
+mod execution;
 mod expression;
 mod finish;
 mod frame;
 mod item;
 mod location;
 mod lock;
+mod operands;
 mod print;
-mod stack;
 mod statement;
 mod step;
 mod thread;

@@ -2,15 +2,16 @@
 
 ghost use Rattle.std.specs.Prelude.{◌≡◌, [], ◌∷◌, get_or, set, pos, ◌<◌, ◌^◌, None, OnOk, IfOk};
 ghost use Rattle.dsm_check.specs.Views.{view_location};
-ghost use Rattle.dsm_check.specs.SemanticsItems.{member, load, store, top, below};
-ghost use Rattle.dsm_check.specs.Semantics.{reaching, loaded, load_at, store_at};
-ghost use Rattle.dsm_check.specs.Semantics;
-ghost use Rattle.dsm_check.specs.SemanticsSteps.{goes};
+ghost use Rattle.dsm_semantics.specs.States.{member, load, store, top, below};
+ghost use Rattle.dsm_semantics.specs.Semantics.{reaching, loaded, load_at, store_at};
+ghost use Rattle.dsm_semantics.specs.Semantics;
+ghost use Rattle.dsm_base.specs.Steps.{goes};
 ghost use Rattle.dsm_interpreter.specs.Sound.{IsSoundItem};
-ghost use Rattle.dsm_interpreter.specs.Threads.{Makes, state_of, place_of, use_of};
+ghost use Rattle.dsm_interpreter.specs.Threads.{Becomes, Steps, state_in, place_of, use_of};
 
+use crate::execution::Execution;
 use crate::item::{Item, Place, Use};
-use crate::thread::PlainThread;
+use crate::operands::{pop_value, top_value, value_below};
 use dsm_base::{Cell, Fault, MemFault, Want};
 use dsm_check::{Array, Location};
 use dsm_syntax::Sharing;
@@ -57,10 +58,11 @@ pub fn set_at(values: &mut Vec<i64>, number: u64, value: i64)
     }
 }
 
-impl<'a> PlainThread<'a> {
+impl<'a> Execution<'a> {
     /// The index of a member comes before all else that is done with the location.
     pub fn reach(&mut self, location: &'a Location) -> Result<(), MemFault>
-        ensures { OnOk result (state_of self.new ≡ record (state_of self.old) { todo = reaching (view_location location.now) (state_of self.old).todo }) }
+        ensures { OnOk result (Becomes self.old self.new (λ s.
+            record s { todo = reaching (view_location location.now) s.todo })) }
     {
         if let Location::Element(_, array, index, line) = location {
             self.frame.todo.push(Item::TestIndex(*array, *line))?;
@@ -71,9 +73,11 @@ impl<'a> PlainThread<'a> {
 
     /// Tests the index on top.
     pub fn test_index(&self, array: Array, line: u32) -> Option<Want>
-        ensures { Makes (Semantics.at_member (state_of self.now) line (Semantics.member_number array (top (state_of self.now).operands)) (λ number. goes (state_of self.now))) (state_of self.now) (state_of self.now) result }
+        ensures { Steps self.now self.now (λ s.
+            Semantics.at_member s line (Semantics.member_number array (top s.operands))
+            (λ number. goes s)) result }
     {
-        match member_number(array, self.frame.operands.value()) {
+        match member_number(array, top_value(&self.frame.operands)) {
             Some(_) => None,
             None => Some(Want::Stop(Fault::Index, line)),
         }
@@ -82,7 +86,8 @@ impl<'a> PlainThread<'a> {
     /// Loads, or wants to load a shared cell.
     pub fn load(&mut self, place: Place, way: Use) -> Result<Option<Want>, MemFault>
         requires { IsSoundItem (load (place_of place) (use_of way)) }
-        ensures { IfOk result (λ wanted. Makes (load_at (state_of self.old) (use_of way) (place_of place)) (state_of self.old) (state_of self.new) wanted) }
+        ensures { IfOk result (Steps self.old self.new (λ s.
+            load_at s (use_of way) (place_of place))) }
     {
         match place {
             Place::Slot(number) => {
@@ -108,9 +113,10 @@ impl<'a> PlainThread<'a> {
         way: Use,
     ) -> Result<Option<Want>, MemFault>
         requires { IsSoundItem (load (member sharing array line) (use_of way)) }
-        ensures { IfOk result (λ wanted. Makes (load_at (state_of self.old) (use_of way) (member sharing array line)) (state_of self.old) (state_of self.new) wanted) }
+        ensures { IfOk result (Steps self.old self.new (λ s.
+            load_at s (use_of way) (member sharing array line))) }
     {
-        let Some(number) = member_number(array, self.frame.operands.value()) else {
+        let Some(number) = member_number(array, top_value(&self.frame.operands)) else {
             return Ok(Some(Want::Stop(Fault::Index, line)));
         };
         match sharing {
@@ -125,7 +131,8 @@ impl<'a> PlainThread<'a> {
 
     /// Leaves a value that has no index.
     pub fn leave_loaded(&mut self, way: Use, value: i64) -> Result<(), MemFault>
-        ensures { OnOk result (state_of self.new ≡ record (state_of self.old) { operands = loaded (use_of way) [] (state_of self.old).operands value }) }
+        ensures { OnOk result (Becomes self.old self.new (λ s.
+            record s { operands = loaded (use_of way) [] s.operands value })) }
     {
         if let Use::StepBehind = way {
             self.frame.operands.push(value)?;
@@ -135,9 +142,13 @@ impl<'a> PlainThread<'a> {
 
     /// Leaves the value of a member, whose index is on top.
     pub fn leave_loaded_member(&mut self, way: Use, value: i64) -> Result<(), MemFault>
-        ensures { OnOk result (state_of self.new ≡ record (state_of self.old) { operands = loaded (use_of way) (top (state_of self.old).operands ∷ []) (below (state_of self.old).operands) value }) }
+        ensures { OnOk result (Becomes self.old self.new (λ s.
+            record s {
+              operands = loaded (use_of way) (top s.operands ∷ [])
+                  (below s.operands) value;
+            })) }
     {
-        let index = self.frame.operands.pop_value();
+        let index = pop_value(&mut self.frame.operands);
         if let Use::StepBehind = way {
             self.frame.operands.push(value)?;
         }
@@ -150,9 +161,9 @@ impl<'a> PlainThread<'a> {
     /// Stores the value on top, or wants to store it in a shared cell.
     pub fn store(&mut self, place: Place) -> Result<Option<Want>, MemFault>
         requires { IsSoundItem (store (place_of place)) }
-        ensures { IfOk result (λ wanted. Makes (store_at (state_of self.old) (place_of place)) (state_of self.old) (state_of self.new) wanted) }
+        ensures { IfOk result (Steps self.old self.new (λ s. store_at s (place_of place))) }
     {
-        let value = self.frame.operands.value();
+        let value = top_value(&self.frame.operands);
         match place {
             Place::Slot(number) => {
                 set_at(&mut self.frame.slots, u64::from(number), value);
@@ -177,10 +188,11 @@ impl<'a> PlainThread<'a> {
         value: i64,
     ) -> Result<Option<Want>, MemFault>
         requires sound { IsSoundItem (store (member sharing array line)) }
-        requires value { value ≡ top (state_of self.old).operands }
-        ensures { IfOk result (λ wanted. Makes (store_at (state_of self.old) (member sharing array line)) (state_of self.old) (state_of self.new) wanted) }
+        requires value { value ≡ top (state_in self.old).operands }
+        ensures { IfOk result (Steps self.old self.new (λ s.
+            store_at s (member sharing array line))) }
     {
-        let Some(number) = member_number(array, self.frame.operands.value_below()) else {
+        let Some(number) = member_number(array, value_below(&self.frame.operands)) else {
             return Ok(Some(Want::Stop(Fault::Index, line)));
         };
         match sharing {
@@ -195,10 +207,11 @@ impl<'a> PlainThread<'a> {
 
     /// Drops the index below the value on top.
     pub fn drop_index_below(&mut self) -> Result<(), MemFault>
-        ensures { OnOk result (state_of self.new ≡ record (state_of self.old) { operands = top (state_of self.old).operands ∷ below (below (state_of self.old).operands) }) }
+        ensures { OnOk result (Becomes self.old self.new (λ s.
+            record s { operands = top s.operands ∷ below (below s.operands) })) }
     {
-        let value = self.frame.operands.pop_value();
-        self.frame.operands.pop_value();
+        let value = pop_value(&mut self.frame.operands);
+        pop_value(&mut self.frame.operands);
         self.frame.operands.push(value)
     }
 }

@@ -1,15 +1,16 @@
 //! Locks that a thread wants.
 
 ghost use Rattle.std.specs.Prelude.{◌≡◌, [], None, Some, MatchOption};
-ghost use Rattle.dsm_check.specs.SemanticsItems.{ask, take_lock, give};
-ghost use Rattle.dsm_check.specs.Semantics;
-ghost use Rattle.dsm_check.specs.Semantics.{lock_number, below_index};
+ghost use Rattle.dsm_semantics.specs.States.{ask, take_lock, give};
+ghost use Rattle.dsm_semantics.specs.Semantics;
+ghost use Rattle.dsm_semantics.specs.Semantics.{lock_number, below_index};
 ghost use Rattle.dsm_interpreter.specs.Sound.{IsSoundItem};
-ghost use Rattle.dsm_interpreter.specs.Threads.{Makes, state_of, lock_of};
+ghost use Rattle.dsm_interpreter.specs.Threads.{Becomes, Steps, state_in, lock_of};
 
+use crate::execution::Execution;
 use crate::item::LockAt;
 use crate::location::member_number;
-use crate::thread::PlainThread;
+use crate::operands::{pop_value, top_value};
 use dsm_base::{Fault, Lock, Mode, Want};
 
 impl LockAt {
@@ -24,16 +25,18 @@ impl LockAt {
     }
 }
 
-impl PlainThread<'_> {
+impl Execution<'_> {
     /// The lock, where its index is one of the array's.
     fn find_lock(&self, lock: LockAt) -> Option<Lock>
         requires { IsSoundItem (give (lock_of lock)) }
-        ensures { MatchOption result (lock_number (lock_of lock) (state_of self.now).operands ≡ None) (λ found. lock_number (lock_of lock) (state_of self.now).operands ≡ Some found.0) }
+        ensures { MatchOption result (lock_number (lock_of lock) (state_in self.now).operands ≡
+            None) (λ found. lock_number (lock_of lock) (state_in self.now).operands ≡
+            Some found.0) }
     {
         match lock {
             LockAt::Single(lock, _) => Some(lock),
             LockAt::Member(array, _) => {
-                let number = member_number(array, self.frame.operands.value())?;
+                let number = member_number(array, top_value(&self.frame.operands))?;
                 Some(Lock(number as u16))
             }
         }
@@ -41,7 +44,8 @@ impl PlainThread<'_> {
 
     pub fn ask(&self, lock: LockAt, mode: Mode) -> Want
         requires { IsSoundItem (give (lock_of lock)) }
-        ensures { Makes (Semantics.act [] (state_of self.now) (ask (lock_of lock) mode)) (state_of self.now) (state_of self.now) (Some result) }
+        ensures { Steps self.now self.now (λ s. Semantics.act [] s (ask (lock_of lock) mode))
+            (Some result) }
     {
         match self.find_lock(lock) {
             Some(found) => Want::Ask(found, mode, lock.line()),
@@ -51,7 +55,8 @@ impl PlainThread<'_> {
 
     pub fn take(&self, lock: LockAt, mode: Mode) -> Want
         requires { IsSoundItem (give (lock_of lock)) }
-        ensures { Makes (Semantics.act [] (state_of self.now) (take_lock (lock_of lock) mode)) (state_of self.now) (state_of self.now) (Some result) }
+        ensures { Steps self.now self.now (λ s. Semantics.act [] s (take_lock (lock_of lock) mode))
+            (Some result) }
     {
         match self.find_lock(lock) {
             Some(found) => Want::Take(found, mode),
@@ -61,7 +66,8 @@ impl PlainThread<'_> {
 
     pub fn give(&self, lock: LockAt) -> Want
         requires { IsSoundItem (give (lock_of lock)) }
-        ensures { Makes (Semantics.act [] (state_of self.now) (give (lock_of lock))) (state_of self.now) (state_of self.now) (Some result) }
+        ensures { Steps self.now self.now (λ s. Semantics.act [] s (give (lock_of lock)))
+            (Some result) }
     {
         match self.find_lock(lock) {
             Some(found) => Want::Give(found, lock.line()),
@@ -71,10 +77,11 @@ impl PlainThread<'_> {
 
     /// Drops the lock's index, if it has one.
     pub fn finish_lock(&mut self, lock: LockAt)
-        ensures { state_of self.new ≡ record (state_of self.old) { operands = below_index (lock_of lock) (state_of self.old).operands } }
+        ensures { Becomes self.old self.new (λ s.
+            record s { operands = below_index (lock_of lock) s.operands }) }
     {
         if let LockAt::Member(_, _) = lock {
-            self.frame.operands.pop_value();
+            pop_value(&mut self.frame.operands);
         }
     }
 }

@@ -2,15 +2,16 @@
 
 ghost use Rattle.std.specs.Prelude.{◌≡◌, ◌++◌, map, IfOk, OnOk};
 ghost use Rattle.dsm_check.specs.Views.{view_part};
-ghost use Rattle.dsm_check.specs.SemanticsItems.{top, below};
-ghost use Rattle.dsm_check.specs.Semantics.{parts_text, text_at};
-ghost use Rattle.dsm_check.specs.SemanticsWithin.{Extent, ArePartsWithin, most_bytes, IsStateWithin};
-ghost use Rattle.dsm_interpreter.specs.Lines.{Grows, IsLine};
-ghost use Rattle.dsm_interpreter.specs.Threads.{state_of};
+ghost use Rattle.dsm_semantics.specs.States.{top, below};
+ghost use Rattle.dsm_semantics.specs.Semantics.{parts_text, text_at};
+ghost use Rattle.dsm_semantics.specs.Within.{Extent, ArePartsWithin, most_bytes, IsStateWithin};
+ghost use Rattle.dsm_base.specs.Output.{IsLine};
+ghost use Rattle.dsm_interpreter.specs.Lines.{Grows};
+ghost use Rattle.dsm_interpreter.specs.Threads.{state_in};
 
+use crate::execution::Execution;
 use crate::finish::values_in;
 use crate::item::Item;
-use crate::thread::PlainThread;
 use dsm_base::{MemFault, Text};
 use dsm_check::Part;
 use itoa::Buffer;
@@ -56,8 +57,11 @@ impl<'a> ValuesLeft<'a> {
 /// Appends the texts of the parts of a print, with nothing between: strings as they are, and values in
 /// decimal.
 fn write_parts(line: &mut Vec<u8>, parts: &[Part], values: &[i64]) -> Result<(), MemFault>
-    ensures text { OnOk result (line.new.items ≡ line.old.items ++ parts_text (map view_part parts.now) values.now) }
-    ensures grows { OnOk result ((extent : Extent) → ArePartsWithin extent (map view_part parts.now) → Grows (most_bytes (map view_part parts.now)) line.old.items line.new.items) }
+    ensures text { OnOk result (line.new.items ≡
+        line.old.items ++ parts_text (map view_part parts.now) values.now) }
+    ensures grows { OnOk result ((extent : Extent) →
+        ArePartsWithin extent (map view_part parts.now) →
+        Grows (most_bytes (map view_part parts.now)) line.old.items line.new.items) }
 {
     let mut values = ValuesLeft::new(values);
     for part in parts {
@@ -72,12 +76,14 @@ fn write_parts(line: &mut Vec<u8>, parts: &[Part], values: &[i64]) -> Result<(),
     Ok(())
 }
 
-impl PlainThread<'_> {
+impl Execution<'_> {
     /// The text of the line that is wanted: at most 256 bytes, each from 0x20 to 0x7E. `MemFault` comes
     /// for want of memory.
     pub fn text(&self, alloc: Global) -> Result<Text, MemFault>
-        ensures text { IfOk result (λ text. text ≡ text_at (state_of self.now).todo (state_of self.now).operands) }
-        ensures line { (extent : Extent) → IsStateWithin extent (state_of self.now) → IfOk result IsLine }
+        ensures text { IfOk result (λ text.
+            text ≡ text_at (state_in self.now).todo (state_in self.now).operands) }
+        ensures line { (extent : Extent) → IsStateWithin extent (state_in self.now) →
+            IfOk result IsLine }
     {
         let mut line = Vec::new(alloc);
         if let Some(item) = self.frame.todo.top() {

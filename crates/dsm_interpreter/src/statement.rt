@@ -2,24 +2,24 @@
 
 ghost use Rattle.std.specs.Prelude.{◌≡◌, if◌then◌else◌, List, [], ◌∷◌, map, None, Some, OnOk, IfOk};
 ghost use Rattle.dsm_check.specs.Views.{view, view_statement, view_statements, view_variable, view_part, view_start, view_lock};
-ghost use Rattle.dsm_check.specs.SemanticsItems.{declare, branch, gather, execute};
-ghost use Rattle.dsm_check.specs.SemanticsItems;
-ghost use Rattle.dsm_check.specs.SemanticsSteps.{goes};
-ghost use Rattle.dsm_check.specs.Semantics;
+ghost use Rattle.dsm_semantics.specs.States.{declare, branch, gather, execute};
+ghost use Rattle.dsm_semantics.specs.States;
+ghost use Rattle.dsm_semantics.specs.Semantics;
 ghost use Rattle.dsm_check.specs.Resolved as r;
-ghost use Rattle.dsm_interpreter.specs.Threads.{Makes, state_of, frame_of, item_of, loop_of, other_of, option_of, lock_of, stage_of};
+ghost use Rattle.dsm_interpreter.specs.Threads.{Becomes, Steps, frame_of, item_of, loop_of, other_of, option_of, lock_of, stage_of};
 
+use crate::execution::Execution;
 use crate::frame::Frame;
 use crate::item::{Item, LockAt, Loop, LoopStage, Place};
 use crate::location::set_at;
-use crate::thread::PlainThread;
 use dsm_base::{MemFault, Mode, Want};
 use dsm_check::{Expression, ForStart, LockPlace, Part, Statement, Variable};
 
-impl<'a> PlainThread<'a> {
+impl<'a> Execution<'a> {
     /// Begins a statement, or wants to come to a barrier.
     pub fn execute(&mut self, statement: &'a Statement) -> Result<Option<Want>, MemFault>
-        ensures { IfOk result (λ wanted. Makes (Semantics.execution (state_of self.old) (view_statement statement.now)) (state_of self.old) (state_of self.new) wanted) }
+        ensures { IfOk result (Steps self.old self.new (λ s.
+            Semantics.execution s (view_statement statement.now))) }
     {
         match statement {
             Statement::Block(body) => self.frame.todo.push(Item::Run(body.as_slice()))?,
@@ -47,7 +47,8 @@ impl<'a> PlainThread<'a> {
     }
 
     fn evaluate_and_discard(&mut self, e: &'a Expression) -> Result<(), MemFault>
-        ensures { OnOk result (goes (state_of self.new) ≡ Semantics.execution (state_of self.old) (r.expression (view e.now))) }
+        ensures { OnOk result (Steps self.old self.new (λ s.
+            Semantics.execution s (r.expression (view e.now))) None) }
     {
         self.frame.todo.push(Item::Discard)?;
         self.frame.todo.push(Item::Evaluate(e))
@@ -59,7 +60,11 @@ impl<'a> PlainThread<'a> {
         body: &'a Statement,
         other: Option<&'a Statement>,
     ) -> Result<(), MemFault>
-        ensures { OnOk result (state_of self.new ≡ record (state_of self.old) { todo = SemanticsItems.evaluate (view test.now) ∷ branch (view_statement body.now) (other_of other.entry) ∷ (state_of self.old).todo }) }
+        ensures { OnOk result (Becomes self.old self.new (λ s.
+            record s {
+              todo = States.evaluate (view test.now) ∷ branch (view_statement body.now)
+                  (other_of other.entry) ∷ s.todo;
+            })) }
     {
         self.frame.todo.push(Item::Branch(body, other))?;
         self.frame.todo.push(Item::Evaluate(test))
@@ -71,7 +76,15 @@ impl<'a> PlainThread<'a> {
         step: Option<&'a Expression>,
         body: &'a Statement,
     ) -> Result<(), MemFault>
-        ensures { OnOk result (state_of self.new ≡ record (state_of self.old) { todo = SemanticsItems.round (record { test = option_of test.entry; step = option_of step.entry; body = view_statement body.now }) ∷ (state_of self.old).todo }) }
+        ensures { OnOk result (Becomes self.old self.new (λ s.
+            record s {
+              todo = States.round
+                  (record {
+                    test = option_of test.entry;
+                    step = option_of step.entry;
+                    body = view_statement body.now;
+                  }) ∷ s.todo;
+            })) }
     {
         let looping = Loop { test, step, body };
         self.frame.todo.push(Item::Go(LoopStage::Round, looping))
@@ -79,7 +92,8 @@ impl<'a> PlainThread<'a> {
 
     /// The first part of a `for`.
     fn start_loop(&mut self, start: &'a ForStart) -> Result<(), MemFault>
-        ensures { OnOk result (state_of self.new ≡ record (state_of self.old) { todo = Semantics.starting (view_start start.now) (state_of self.old).todo }) }
+        ensures { OnOk result (Becomes self.old self.new (λ s.
+            record s { todo = Semantics.starting (view_start start.now) s.todo })) }
     {
         match start {
             ForStart::Nothing => Ok(()),
@@ -91,7 +105,8 @@ impl<'a> PlainThread<'a> {
     }
 
     fn give_back(&mut self, value: Option<&'a Expression>) -> Result<(), MemFault>
-        ensures { OnOk result (goes (state_of self.new) ≡ Semantics.execution (state_of self.old) (r.return (option_of value.entry))) }
+        ensures { OnOk result (Steps self.old self.new (λ s.
+            Semantics.execution s (r.return (option_of value.entry))) None) }
     {
         self.frame.todo.push(Item::Leave)?;
         match value {
@@ -101,14 +116,16 @@ impl<'a> PlainThread<'a> {
     }
 
     fn acquire(&mut self, lock: &'a LockPlace, mode: Mode) -> Result<(), MemFault>
-        ensures { OnOk result (goes (state_of self.new) ≡ Semantics.execution (state_of self.old) (r.acquire (view_lock lock.now) mode)) }
+        ensures { OnOk result (Steps self.old self.new (λ s.
+            Semantics.execution s (r.acquire (view_lock lock.now) mode)) None) }
     {
         self.frame.todo.push(Item::Ask(lock_at(lock), mode))?;
         self.reach_lock(lock)
     }
 
     fn release(&mut self, lock: &'a LockPlace) -> Result<(), MemFault>
-        ensures { OnOk result (goes (state_of self.new) ≡ Semantics.execution (state_of self.old) (r.release (view_lock lock.now))) }
+        ensures { OnOk result (Steps self.old self.new (λ s.
+            Semantics.execution s (r.release (view_lock lock.now))) None) }
     {
         self.frame.todo.push(Item::Give(lock_at(lock)))?;
         self.reach_lock(lock)
@@ -116,7 +133,8 @@ impl<'a> PlainThread<'a> {
 
     /// The index of a lock comes before all else that is done with it.
     fn reach_lock(&mut self, lock: &'a LockPlace) -> Result<(), MemFault>
-        ensures { OnOk result (state_of self.new ≡ record (state_of self.old) { todo = Semantics.reaching_lock (view_lock lock.now) (state_of self.old).todo }) }
+        ensures { OnOk result (Becomes self.old self.new (λ s.
+            record s { todo = Semantics.reaching_lock (view_lock lock.now) s.todo })) }
     {
         if let LockPlace::Element(array, index, line) = lock {
             self.frame.todo.push(Item::TestIndex(*array, *line))?;
@@ -126,7 +144,8 @@ impl<'a> PlainThread<'a> {
     }
 
     fn print(&mut self, parts: &'a [Part]) -> Result<(), MemFault>
-        ensures { OnOk result (goes (state_of self.new) ≡ Semantics.execution (state_of self.old) (r.print (map view_part parts.now))) }
+        ensures { OnOk result (Steps self.old self.new (λ s.
+            Semantics.execution s (r.print (map view_part parts.now))) None) }
     {
         self.frame.todo.push(Item::Print(parts))?;
         self.frame.todo.push(Item::Gather(parts))
@@ -134,7 +153,8 @@ impl<'a> PlainThread<'a> {
 
     /// Executes statements from the first on.
     pub fn run(&mut self, statements: &'a [Statement]) -> Result<(), MemFault>
-        ensures { OnOk result (Makes (Semantics.execution_of_all (state_of self.old) (view_statements statements.now)) (state_of self.old) (state_of self.new) None) }
+        ensures { OnOk result (Steps self.old self.new (λ s.
+            Semantics.execution_of_all s (view_statements statements.now)) None) }
     {
         match statements.split_first() {
             None => Ok(()),
@@ -147,7 +167,8 @@ impl<'a> PlainThread<'a> {
 
     /// Declares variables from the first on.
     pub fn declare(&mut self, variables: &'a [Variable]) -> Result<(), MemFault>
-        ensures { OnOk result (Makes (Semantics.declaration (state_of self.old) (map view_variable variables.now)) (state_of self.old) (state_of self.new) None) }
+        ensures { OnOk result (Steps self.old self.new (λ s.
+            Semantics.declaration s (map view_variable variables.now)) None) }
     {
         let Some((variable, rest)) = variables.split_first() else {
             return Ok(());
@@ -174,7 +195,8 @@ impl<'a> PlainThread<'a> {
         body: &'a Statement,
         other: Option<&'a Statement>,
     ) -> Result<(), MemFault>
-        ensures { OnOk result (Makes (Semantics.act [] (state_of self.old) (branch (view_statement body.now) (other_of other.entry))) (state_of self.old) (state_of self.new) None) }
+        ensures { OnOk result (Steps self.old self.new (λ s.
+            Semantics.act [] s (branch (view_statement body.now) (other_of other.entry))) None) }
     {
         let chosen = if self.pop_condition() {
             Some(body)
@@ -189,7 +211,8 @@ impl<'a> PlainThread<'a> {
 
     /// Goes on with a round of a loop, or wants to jump back.
     pub fn go(&mut self, stage: LoopStage, looping: Loop<'a>) -> Result<Option<Want>, MemFault>
-        ensures { IfOk result (λ wanted. Makes (Semantics.act [] (state_of self.old) (stage_of stage (loop_of looping.entry))) (state_of self.old) (state_of self.new) wanted) }
+        ensures { IfOk result (Steps self.old self.new (λ s.
+            Semantics.act [] s (stage_of stage (loop_of looping.entry)))) }
     {
         match stage {
             LoopStage::Round => self.begin_round(looping)?,
@@ -212,7 +235,8 @@ impl<'a> PlainThread<'a> {
     }
 
     fn begin_round(&mut self, looping: Loop<'a>) -> Result<(), MemFault>
-        ensures { OnOk result (Makes (Semantics.act [] (state_of self.old) (SemanticsItems.round (loop_of looping.entry))) (state_of self.old) (state_of self.new) None) }
+        ensures { OnOk result (Steps self.old self.new (λ s.
+            Semantics.act [] s (States.round (loop_of looping.entry))) None) }
     {
         match looping.test {
             None => self.begin_body(looping),
@@ -224,7 +248,11 @@ impl<'a> PlainThread<'a> {
     }
 
     fn begin_body(&mut self, looping: Loop<'a>) -> Result<(), MemFault>
-        ensures { OnOk result (state_of self.new ≡ record (state_of self.old) { todo = execute (loop_of looping.entry).body ∷ SemanticsItems.third_part (loop_of looping.entry) ∷ (state_of self.old).todo }) }
+        ensures { OnOk result (Becomes self.old self.new (λ s.
+            record s {
+              todo = execute (loop_of looping.entry).body ∷ States.third_part
+                  (loop_of looping.entry) ∷ s.todo;
+            })) }
     {
         self.frame
             .todo
@@ -234,7 +262,8 @@ impl<'a> PlainThread<'a> {
 
     /// Evaluates the values of a print from the left.
     pub fn gather(&mut self, parts: &'a [Part]) -> Result<(), MemFault>
-        ensures { OnOk result (Makes (Semantics.gathering (state_of self.old) (map view_part parts.now)) (state_of self.old) (state_of self.new) None) }
+        ensures { OnOk result (Steps self.old self.new (λ s.
+            Semantics.gathering s (map view_part parts.now)) None) }
     {
         let Some((part, rest)) = parts.split_first() else {
             return Ok(());
@@ -260,7 +289,10 @@ fn lock_at(lock: &LockPlace) -> LockAt
 impl Frame<'_> {
     /// Goes on behind the innermost loop.
     fn leave_loop(&mut self)
-        ensures { frame_of self.new ≡ record (frame_of self.old) { todo = Semantics.after_loop (frame_of self.old).todo } }
+        ensures { frame_of self.new ≡ record (frame_of self.old) {
+          todo = Semantics.after_loop
+              (frame_of self.old).todo;
+        } }
     {
         while let Some(item) = self.todo.pop() {
             if is_third_part(item) {
@@ -271,7 +303,10 @@ impl Frame<'_> {
 
     /// Goes on behind the body of the innermost loop.
     fn leave_body(&mut self)
-        ensures { frame_of self.new ≡ record (frame_of self.old) { todo = Semantics.after_body (frame_of self.old).todo } }
+        ensures { frame_of self.new ≡ record (frame_of self.old) {
+          todo = Semantics.after_body
+              (frame_of self.old).todo;
+        } }
     {
         while let Some(item) = self.todo.top() {
             if is_third_part(item) {
@@ -284,8 +319,10 @@ impl Frame<'_> {
 
 /// Whether the item comes right behind the body of a loop.
 fn is_third_part(item: Item<'_>) -> bool
-    ensures in_loop { (k : List SemanticsItems.Item) → Semantics.after_loop (item_of item.entry ∷ k) ≡ (if result then k else Semantics.after_loop k) }
-    ensures in_body { (k : List SemanticsItems.Item) → Semantics.after_body (item_of item.entry ∷ k) ≡ (if result then item_of item.entry ∷ k else Semantics.after_body k) }
+    ensures in_loop { (k : List States.Item) → Semantics.after_loop (item_of item.entry ∷ k) ≡
+        (if result then k else Semantics.after_loop k) }
+    ensures in_body { (k : List States.Item) → Semantics.after_body (item_of item.entry ∷ k) ≡
+        (if result then item_of item.entry ∷ k else Semantics.after_body k) }
 {
     matches!(item, Item::Go(LoopStage::ThirdPart, _))
 }

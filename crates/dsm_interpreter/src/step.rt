@@ -2,21 +2,22 @@
 
 ghost use Rattle.std.specs.Prelude.{◌≡◌, List, None, Some, IfOk, OnOk};
 ghost use Rattle.dsm_check.specs.Resolved as r;
-ghost use Rattle.dsm_check.specs.Semantics;
-ghost use Rattle.dsm_check.specs.Semantics.{step};
+ghost use Rattle.dsm_semantics.specs.Semantics;
+ghost use Rattle.dsm_semantics.specs.Semantics.{step};
 ghost use Rattle.dsm_interpreter.specs.Sound.{IsSoundItem, IsSoundState};
-ghost use Rattle.dsm_interpreter.specs.Threads.{Makes, state_of, item_of};
+ghost use Rattle.dsm_interpreter.specs.Threads.{Steps, state_in, item_of};
 
-use crate::frame::Life;
+use crate::execution::Execution;
 use crate::item::Item;
-use crate::thread::PlainThread;
+use crate::operands::pop_value;
 use dsm_base::{MemFault, Want};
 
-impl<'a> PlainThread<'a> {
+impl<'a> Execution<'a> {
     /// Does an item, or tells what it wants and leaves all as it is.
     fn act(&mut self, item: Item<'a>) -> Result<Option<Want>, MemFault>
         requires { IsSoundItem (item_of item) }
-        ensures { IfOk result (λ wanted. (functions : List r.Function) → Makes (Semantics.act functions (state_of self.old) (item_of item.entry)) (state_of self.old) (state_of self.new) wanted) }
+        ensures { IfOk result (λ wanted. (functions : List r.Function) →
+            Steps self.old self.new (λ s. Semantics.act functions s (item_of item.entry)) wanted) }
     {
         match item {
             Item::Evaluate(e) => self.evaluate(e)?,
@@ -33,7 +34,7 @@ impl<'a> PlainThread<'a> {
             Item::Choose(a, b) => self.choose(a, b)?,
             Item::Enter(_, line) => return Ok(Some(self.enter(line))),
             Item::Discard => {
-                self.frame.operands.pop_value();
+                pop_value(&mut self.frame.operands);
             }
             Item::Execute(statement) => return self.execute(statement),
             Item::Run(statements) => self.run(statements)?,
@@ -53,12 +54,12 @@ impl<'a> PlainThread<'a> {
 
     /// Makes a step, or tells what is wanted and leaves all as it is.
     pub fn step(&mut self) -> Result<Option<Want>, MemFault>
-        requires { IsSoundState (state_of self.old) }
-        ensures { IfOk result (λ wanted. (functions : List r.Function) → Makes (step functions (state_of self.old)) (state_of self.old) (state_of self.new) wanted) }
+        requires { IsSoundState (state_in self.old) }
+        ensures { IfOk result (λ wanted. (functions : List r.Function) →
+            Steps self.old self.new (λ s. step functions s) wanted) }
     {
-        match self.life {
-            Life::Going => {}
-            Life::Ended | Life::Stopped(_, _) => return Ok(Some(Want::Over)),
+        if self.life.is_some() {
+            return Ok(Some(Want::Over));
         }
         let Some(item) = self.frame.todo.pop() else {
             return Ok(Some(self.leave()));

@@ -1,37 +1,34 @@
 //! Threads over programs with every name resolved.
 
-ghost use Rattle.std.specs.Prelude.{◌≡◌, List, map, slice_get, IfOk, OnOk};
+ghost use Rattle.std.specs.Prelude.{◌≡◌, map, IfOk, OnOk};
 ghost use Rattle.dsm_base.specs.declared.label.Label.{Label};
-ghost use Rattle.dsm_base.specs.Threads.{Completes};
-ghost use Rattle.dsm_check.specs.Resolved as r;
+ghost use Rattle.dsm_base.specs.Output.{IsLine};
+ghost use Rattle.dsm_base.specs.Threads.{Completes, line_of};
 ghost use Rattle.dsm_check.specs.Views.{view_function};
-ghost use Rattle.dsm_check.specs.Semantics.{numbered, started, step, ready, completed};
-ghost use Rattle.dsm_check.specs.SemanticsSteps.{want_of};
-ghost use Rattle.dsm_check.specs.SemanticsWithin.{Extent, IsStateWithin};
-ghost use Rattle.dsm_interpreter.specs.Sound.{IsSoundState};
-ghost use Rattle.dsm_interpreter.specs.Threads.{state_of};
+ghost use Rattle.dsm_semantics.specs.Semantics.{completed, first_state};
+ghost use Rattle.dsm_semantics.specs.States.{ending_of};
+ghost use Rattle.dsm_semantics.specs.Within.{Extent, AreFunctionsWithin, IsStateWithin};
+ghost use Rattle.dsm_interpreter.specs.Sound.{AreSound, IsNarrow, IsReady};
+ghost use Rattle.dsm_interpreter.specs.Threads.{functions_of, semantics_of, state_of, told_by};
 
-use crate::call::{callee_at, new_frame};
-use crate::frame::{Frame, Life};
-use crate::stack::Stack;
-use dsm_base::{Fault, MemFault, Proc, Want};
+use crate::call::callee_at;
+use crate::execution::Execution;
+use crate::frame::Over;
+use dsm_base::{Ending, Fault, MemFault, Proc, Text, Want};
 use dsm_check::Function;
 use std::alloc::Global;
 
-/// A thread of a program; its items refer to the program's functions.
+/// A thread of a program. It stands right before its next labelled step, and tells which one that is.
 #[derive(Drop)]
 pub struct PlainThread<'a> {
-    pub(crate) alloc: Global,
-    pub(crate) frame: Frame<'a>,
-    /// The functions that wait for the one of `frame`, the innermost first.
-    pub(crate) outer: Stack<Frame<'a>>,
-    /// The private cells.
-    pub(crate) own: Vec<i64>,
-    pub(crate) life: Life,
+    functions: &'a [Function],
+    execution: Execution<'a>,
+    wanted: Want,
 }
 
 impl<'a> PlainThread<'a> {
-    /// The thread of a processor before its first step, of so many.
+    /// The thread of a processor, of so many, right before its first labelled step. `MemFault` comes out
+    /// of memory.
     pub fn start(
         alloc: Global,
         functions: &'a [Function],
@@ -40,47 +37,110 @@ impl<'a> PlainThread<'a> {
         me: Proc,
         procs: u8,
     ) -> Result<PlainThread<'a>, MemFault>
-        ensures { IfOk result (λ thread. state_of thread ≡ started (numbered (slice_get (map view_function functions.now) main)) private_cells procs me.0) }
+        requires { AreSound (map view_function functions.now) }
+        ensures program { IfOk result (λ thread.
+            functions_of thread ≡ map view_function functions.now) }
+        ensures state { IfOk result (λ thread.
+            state_of thread ≡
+            first_state (map view_function functions.now) main private_cells procs me.0) }
+        ensures ready { IfOk result (λ thread. (extent : Extent) → IsNarrow extent →
+            AreFunctionsWithin extent (map view_function functions.now) → IsReady extent thread) }
     {
         let main = callee_at(functions, main);
-        let arguments = [i64::from(me.0), i64::from(procs)];
+        let mut execution = Execution::start(alloc, main, private_cells, me, procs)?;
+        let wanted = execution.go_on()?;
         Ok(PlainThread {
-            alloc,
-            frame: new_frame(alloc, main, arguments.as_slice())?,
-            outer: Stack::new(alloc),
-            own: vec![in alloc; 0; private_cells as usize]?,
-            life: Life::Going,
+            functions,
+            execution,
+            wanted,
         })
     }
 
-    /// Goes on to the next labelled step, and tells it; asked again it tells the same.
-    pub fn want(&mut self) -> Result<Want, MemFault>
-        requires { IsSoundState (state_of self.old) }
-        ensures value { IfOk result (λ want. (functions : List r.Function) → want ≡ want_of (step functions (state_of self.new))) }
-        ensures state { OnOk result ((functions : List r.Function) → state_of self.new ≡ ready functions (state_of self.old)) }
-        ensures within { OnOk result ((extent : Extent) → IsStateWithin extent (state_of self.old) → IsStateWithin extent (state_of self.new)) }
+    /// What it wants: `Over` where it has ended or stopped.
+    pub fn want(&self) -> Want
+        ensures { result ≡ told_by self.now }
     {
-        'steps: loop {
-            let wanted = self.step()?;
-            match wanted {
-                Some(want) => return Ok(want),
-                None => {}
+        self.wanted
+    }
+
+    /// Completes the step that it wants, and goes on to the next; the answer is the value of a load, and
+    /// 0 otherwise. `MemFault` comes out of memory.
+    pub fn done(&mut self, answer: i64) -> Result<(), MemFault>
+        requires { (extent : Extent) × IsReady extent self.old }
+        ensures state { OnOk result ((label : Label) → Completes (told_by self.old) answer label →
+            state_of self.new ≡ (semantics_of self.old).after (state_of self.old) label) }
+        ensures ready { OnOk result ((extent : Extent) →
+            IsReady extent self.old → IsReady extent self.new) }
+        ensures program { functions_of self.new ≡ functions_of self.old }
+    {
+        self.complete(answer)?;
+        self.wanted = self.execution.go_on()?;
+        Ok(())
+    }
+
+    /// Completes the step that it wants.
+    fn complete(&mut self, answer: i64) -> Result<(), MemFault>
+        requires { (extent : Extent) × IsReady extent self.old }
+        ensures state { OnOk result ((label : Label) → Completes (told_by self.old) answer label →
+            state_of self.new ≡ completed (functions_of self.old) (state_of self.old) label) }
+        ensures within { OnOk result ((extent : Extent) →
+            IsReady extent self.old → IsStateWithin extent (state_of self.new)) }
+        ensures program { functions_of self.new ≡ functions_of self.old }
+    {
+        match self.wanted {
+            Want::Stop(fault, line) => {
+                self.execution.end(Over::Stopped(fault, line));
+                Ok(())
             }
+            _ => self.execution.finish(self.functions, answer),
         }
     }
 
-    /// Completes the step that is wanted; the answer is the value of a load.
-    pub fn done(&mut self, functions: &'a [Function], answer: i64) -> Result<(), MemFault>
-        ensures { OnOk result ((label : Label) → Completes (want_of (step (map view_function functions.now) (state_of self.old))) answer label →
-            state_of self.new ≡ completed (map view_function functions.now) (state_of self.old) label) }
+    /// The thread has stopped, at the line of what it wants.
+    pub fn stop(&mut self, fault: Fault)
+        requires { (extent : Extent) × IsReady extent self.old }
+        ensures state { let label = Label.Stop fault (line_of (told_by self.old)) in
+            state_of self.new ≡ (semantics_of self.old).after (state_of self.old) label }
+        ensures ready { (extent : Extent) → IsReady extent self.old → IsReady extent self.new }
+        ensures program { functions_of self.new ≡ functions_of self.old }
     {
-        self.finish(functions, answer)
+        let line = line_of(self.wanted);
+        self.execution.end(Over::Stopped(fault, line));
+        self.wanted = Want::Over;
     }
 
-    /// The thread has stopped.
-    pub fn stop(&mut self, fault: Fault, line: u32)
-        ensures { (functions : List r.Function) → state_of self.new ≡ completed functions (state_of self.old) (Label.Stop fault line) }
+    /// The text of the line that it wants. `MemFault` comes out of memory.
+    pub fn text(&self, alloc: Global) -> Result<Text, MemFault>
+        requires { (extent : Extent) × IsReady extent self.now }
+        ensures text { IfOk result (λ text.
+            text ≡ (semantics_of self.now).text (state_of self.now)) }
+        ensures line { IfOk result IsLine }
     {
-        self.end(Life::Stopped(fault, line));
+        self.execution.text(alloc)
+    }
+
+    /// How it came to be over, if it is.
+    pub fn ending(&self) -> Option<Ending>
+        ensures { result ≡ ending_of (state_of self.now) }
+    {
+        match self.execution.life {
+            None => None,
+            Some(Over::Ended) => Some(Ending::Ended),
+            Some(Over::Stopped(_, _)) => Some(Ending::Stopped),
+        }
+    }
+}
+
+/// The line at which a thread that wants this may stop; 0 where it may not.
+fn line_of(want: Want) -> u32
+    ensures { result ≡ line_of want }
+{
+    match want {
+        Want::Load(_, line)
+        | Want::Store(_, _, line)
+        | Want::Ask(_, _, line)
+        | Want::Give(_, line)
+        | Want::Stop(_, line) => line,
+        _ => 0,
     }
 }

@@ -4,14 +4,14 @@ ghost use Rattle.std.specs.Prelude.{◌≡◌, ◌<◌, ◌^◌, pos, ◌*ℤ◌
 ghost use Rattle.std.specs.Int.{w64};
 ghost use Rattle.std.specs.Option.{SomeIff};
 ghost use Rattle.dsm_syntax.specs.declared.tree.BinaryOp.{BinaryOp};
-ghost use Rattle.dsm_check.specs.SemanticsValues;
+ghost use Rattle.dsm_semantics.specs.Values;
 
 use dsm_base::Fault;
 use dsm_syntax::{BinaryOp, StepOp, UnaryOp};
 
 /// The value of an operator before its operand, or the fault.
 pub fn unary_value(op: UnaryOp, a: i64) -> Result<i64, Fault>
-    ensures { result ≡ SemanticsValues.unary_value op a }
+    ensures { result ≡ Values.unary_value op a }
 {
     match op {
         UnaryOp::Negate => a.checked_neg().ok_or(Fault::Overflow),
@@ -23,7 +23,7 @@ pub fn unary_value(op: UnaryOp, a: i64) -> Result<i64, Fault>
 
 /// The value after a step by one, or the fault.
 pub fn step_value(op: StepOp, a: i64) -> Result<i64, Fault>
-    ensures { result ≡ SemanticsValues.step_value op a }
+    ensures { result ≡ Values.step_value op a }
 {
     match op {
         StepOp::Increment => a.checked_add(1).ok_or(Fault::Overflow),
@@ -33,7 +33,7 @@ pub fn step_value(op: StepOp, a: i64) -> Result<i64, Fault>
 
 /// The value of an operator between its operands, or the fault.
 pub fn binary_value(op: BinaryOp, a: i64, b: i64) -> Result<i64, Fault>
-    ensures { result ≡ SemanticsValues.binary_value op a b }
+    ensures { result ≡ Values.binary_value op a b }
 {
     match op {
         BinaryOp::Times => a.checked_mul(b).ok_or(Fault::Overflow),
@@ -59,7 +59,7 @@ pub fn binary_value(op: BinaryOp, a: i64, b: i64) -> Result<i64, Fault>
 
 /// Rounded toward zero.
 fn quotient(a: i64, b: i64) -> Result<i64, Fault>
-    ensures { result ≡ SemanticsValues.binary_value BinaryOp.Divide a b }
+    ensures { result ≡ Values.binary_value BinaryOp.Divide a b }
 {
     if b == 0 {
         return Err(Fault::DivZero);
@@ -69,7 +69,7 @@ fn quotient(a: i64, b: i64) -> Result<i64, Fault>
 
 /// What the quotient leaves.
 fn remainder(a: i64, b: i64) -> Result<i64, Fault>
-    ensures { result ≡ SemanticsValues.binary_value BinaryOp.Remainder a b }
+    ensures { result ≡ Values.binary_value BinaryOp.Remainder a b }
 {
     if b == 0 {
         return Err(Fault::DivZero);
@@ -81,7 +81,7 @@ fn remainder(a: i64, b: i64) -> Result<i64, Fault>
 }
 
 fn shifted_left(a: i64, b: i64) -> Result<i64, Fault>
-    ensures { result ≡ SemanticsValues.binary_value BinaryOp.ShiftLeft a b }
+    ensures { result ≡ Values.binary_value BinaryOp.ShiftLeft a b }
 {
     match u32::try_from(b) {
         Ok(by) if by < 64 => times_power(a, by).ok_or(Fault::Overflow),
@@ -90,7 +90,7 @@ fn shifted_left(a: i64, b: i64) -> Result<i64, Fault>
 }
 
 fn shifted_right(a: i64, b: i64) -> Result<i64, Fault>
-    ensures { result ≡ SemanticsValues.binary_value BinaryOp.ShiftRight a b }
+    ensures { result ≡ Values.binary_value BinaryOp.ShiftRight a b }
 {
     match u32::try_from(b) {
         Ok(by) => a.checked_shr(by).ok_or(Fault::Shift),

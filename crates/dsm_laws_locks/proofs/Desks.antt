@@ -10,7 +10,7 @@ use Rattle.dsm_trace.specs.declared.lock.LockState.{LockState}
 use Rattle.dsm_trace.specs.Locks.{is_compatible, holder_of, without_holder, version_after, cells_after, is_empty, granted_by_ask, asked, front_of, behind_front, granted_by_give, given}
 use Rattle.dsm_trace.specs.Effects.{processor_named, own_grant}
 use Rattle.dsm_laws_locks.proofs.Members.{one_changed, turned_false}
-use Rattle.dsm_laws_locks.proofs.Holders.{modes_of, waits_of, waiting_modes, are_compatible, modes_append, waits_append, modes_granted, modes_without, modes_without_other, compatible_append, without_are_compatible, without_shared, are_compatible_one, weak_compatible, front_behind, front_compatible, front_shared}
+use Rattle.dsm_laws_locks.proofs.Holders.{modes_of, waits_of, waiting_modes, all_compatible, modes_append, waits_append, modes_granted, modes_without, modes_without_other, compatible_append, without_are_compatible, without_shared, are_compatible_one, weak_compatible, front_behind, front_compatible, front_shared}
 use Rattle.dsm_laws_locks.proofs.Places.{Word, Asks, Gives, Grants, View, Side, side_of, Saved, Place, Out, Asked, Queued, Granted, Mailed, Holding, Left, Leaving, side_at, nothing_seen, IsCurrent, Makes, Brings, IsSound}
 use Rattle.dsm_laws_locks.proofs.Moves.{IsGranted, is_granted, IsRequest, is_request, IsRelease, is_release}
 
@@ -242,7 +242,7 @@ pub record Sound (IsVersion : ℕ → List CellValue → Type 0) (newest lock : 
   pub sound : IsSound IsVersion newest lock v places
 
 module _ {IsVersion : ℕ → List CellValue → Type 0} (newest lock : ℕ) (v : View) (places : ℕ → Place) (sound : IsSound IsVersion newest lock v places) (me : ℕ) where
-  served : (ws left : List Waiting) → v.desk.queue ≡ ws ++ left → are_compatible (v.desk.holders ++ map holder_of ws) ≡ true → (ws ≢ [] → is_compatible v.desk.holders Mode.Shared ≡ true) →
+  served : (ws left : List Waiting) → v.desk.queue ≡ ws ++ left → all_compatible (v.desk.holders ++ map holder_of ws) ≡ true → (ws ≢ [] → is_compatible v.desk.holders Mode.Shared ≡ true) →
       IsSound IsVersion newest lock (with_grants me lock ws (record v.desk { holders = v.desk.holders ++ map holder_of ws; queue = left }) v)
       (λ x. served_at (x == me) (saved_of v.desk) (waits_of x ws) (places x))
   served ws left e all shared = record {
@@ -258,7 +258,7 @@ module _ {IsVersion : ℕ → List CellValue → Type 0} (newest lock : ℕ) (v 
     is_newest = λ s. sound.is_newest (compatible_append v.desk.holders (map holder_of ws) Mode.Shared s);
   }
 
-  pub all_served : (ws left : List Waiting) → v.desk.queue ≡ ws ++ left → are_compatible (v.desk.holders ++ map holder_of ws) ≡ true → (ws ≢ [] → is_compatible v.desk.holders Mode.Shared ≡ true) →
+  pub all_served : (ws left : List Waiting) → v.desk.queue ≡ ws ++ left → all_compatible (v.desk.holders ++ map holder_of ws) ≡ true → (ws ≢ [] → is_compatible v.desk.holders Mode.Shared ≡ true) →
       Sound IsVersion newest lock (with_grants me lock ws (record v.desk { holders = v.desk.holders ++ map holder_of ws; queue = left }) v)
   all_served ws left e all shared = record { places = λ x. served_at (x == me) (saved_of v.desk) (waits_of x ws) (places x); sound = served ws left e all shared }
 

@@ -3,9 +3,10 @@ use Rattle.std.specs.Prelude.{◌≡◌, ◌≢◌, ℕ, ◌==◌, Bool, true, f
 use Rattle.std.proofs.Common.{arith, refl, ap, subst, inl, inr, append_assoc, append-nil, true≢false}
 use Rattle.std.proofs.lemmas.Bool.Decides.{eqb_tells}
 use Rattle.dsm_base.specs.declared.names.Mode.{Mode}
-use Rattle.dsm_trace.specs.declared.lock.Holder.{Holder}
+use Rattle.dsm_base.specs.declared.holders.Holder.{Holder}
 use Rattle.dsm_trace.specs.declared.lock.Waiting.{Waiting}
-use Rattle.dsm_trace.specs.Locks.{are_shared, is_compatible, holder_of, front_of, behind_front, without_holder}
+use Rattle.dsm_base.specs.Holders.{are_compatible}
+use Rattle.dsm_trace.specs.Locks.{is_compatible, holder_of, front_of, behind_front, without_holder}
 use Rattle.dsm_trace.specs.Effects.{is_of}
 
 -- the modes of the holds of one processor
@@ -21,9 +22,9 @@ abbrev pub waiting_modes : List Waiting → List Mode
 waiting_modes queue = map (λ waiting. waiting.mode) queue
 
 -- whether all holds stand beside each other
-abbrev pub are_compatible : List Holder → Bool
-are_compatible [] = true
-are_compatible (holder ∷ holders) = is_compatible holders holder.mode && are_compatible holders
+abbrev pub all_compatible : List Holder → Bool
+all_compatible [] = true
+all_compatible (holder ∷ holders) = is_compatible holders holder.mode && all_compatible holders
 
 -- Seen by processor.
 
@@ -66,11 +67,11 @@ modes_without_other p q (h ∷ hs) ne = grind (arith, modes_without_other p q hs
 
 -- Modes beside each other.
 
-shared_turned : (m n : Mode) → are_shared m n ≡ true → are_shared n m ≡ true
+shared_turned : (m n : Mode) → are_compatible m n ≡ true → are_compatible n m ≡ true
 shared_turned m n e = grind arith
 
 -- what stands beside some mode stands beside a shared hold
-shared_weak : (m n : Mode) → are_shared m n ≡ true → are_shared m Mode.Shared ≡ true
+shared_weak : (m n : Mode) → are_compatible m n ≡ true → are_compatible m Mode.Shared ≡ true
 shared_weak m n e = grind arith
 
 both : (a b : Bool) → (a && b) ≡ true → (a ≡ true) × (b ≡ true)
@@ -80,21 +81,21 @@ pub compatible_append : (xs ys : List Holder) (m : Mode) → is_compatible (xs +
 compatible_append [] ys m e = refl
 compatible_append (x ∷ xs) ys m e = grind (arith, compatible_append xs ys m)
 
-pub compatible_one : (xs : List Holder) (h : Holder) (m : Mode) → is_compatible xs m ≡ true → are_shared h.mode m ≡ true → is_compatible (xs ++ h ∷ []) m ≡ true
+pub compatible_one : (xs : List Holder) (h : Holder) (m : Mode) → is_compatible xs m ≡ true → are_compatible h.mode m ≡ true → is_compatible (xs ++ h ∷ []) m ≡ true
 compatible_one [] h m e s = grind arith
 compatible_one (x ∷ xs) h m e s = grind (arith, compatible_one xs h m)
 
-pub are_compatible_one : (xs : List Holder) (h : Holder) → are_compatible xs ≡ true → is_compatible xs h.mode ≡ true → are_compatible (xs ++ h ∷ []) ≡ true
+pub are_compatible_one : (xs : List Holder) (h : Holder) → all_compatible xs ≡ true → is_compatible xs h.mode ≡ true → all_compatible (xs ++ h ∷ []) ≡ true
 are_compatible_one [] h e c = refl
 are_compatible_one (x ∷ xs) h e c = grind (arith, are_compatible_one xs h, compatible_one xs h x.mode, shared_turned x.mode h.mode)
 
 -- those at the front may hold the lock beside the holders and each other
-pub front_compatible : (hs : List Holder) (queue : List Waiting) → are_compatible hs ≡ true → are_compatible (hs ++ map holder_of (front_of hs queue)) ≡ true
+pub front_compatible : (hs : List Holder) (queue : List Waiting) → all_compatible hs ≡ true → all_compatible (hs ++ map holder_of (front_of hs queue)) ≡ true
 front_compatible hs [] e = rw append-nil e
 front_compatible hs (w ∷ ws) e = go (λ c. front_compatible (hs ++ holder_of w ∷ []) ws (are_compatible_one hs (holder_of w) e c)) (is_compatible hs w.mode) refl
   where
-    go : (is_compatible hs w.mode ≡ true → are_compatible ((hs ++ holder_of w ∷ []) ++ map holder_of (front_of (hs ++ holder_of w ∷ []) ws)) ≡ true) → (b : Bool) → is_compatible hs w.mode ≡ b →
-        are_compatible (hs ++ map holder_of (front_of hs (w ∷ ws))) ≡ true
+    go : (is_compatible hs w.mode ≡ true → all_compatible ((hs ++ holder_of w ∷ []) ++ map holder_of (front_of (hs ++ holder_of w ∷ []) ws)) ≡ true) → (b : Bool) → is_compatible hs w.mode ≡ b →
+        all_compatible (hs ++ map holder_of (front_of hs (w ∷ ws))) ≡ true
     go more true c = rw c (rw append_assoc at (more c))
     go more false c = rw c (rw append-nil e)
 
@@ -119,28 +120,28 @@ without_compatible : (p : ℕ) (hs : List Holder) (m : Mode) → is_compatible h
 without_compatible p [] m e = refl
 without_compatible p (h ∷ hs) m e = grind (arith, without_compatible p hs m)
 
-pub without_are_compatible : (p : ℕ) (hs : List Holder) → are_compatible hs ≡ true → are_compatible (without_holder p hs) ≡ true
+pub without_are_compatible : (p : ℕ) (hs : List Holder) → all_compatible hs ≡ true → all_compatible (without_holder p hs) ≡ true
 without_are_compatible p [] e = refl
 without_are_compatible p (h ∷ hs) e = grind (arith, without_are_compatible p hs, without_compatible p hs h.mode)
 
 -- a hold that is compatible with the holders is so with each
-pub beside_each : (q : ℕ) (hs : List Holder) (m n : Mode) (ns : List Mode) → is_compatible hs m ≡ true → modes_of q hs ≡ n ∷ ns → are_shared n m ≡ true
+pub beside_each : (q : ℕ) (hs : List Holder) (m n : Mode) (ns : List Mode) → is_compatible hs m ≡ true → modes_of q hs ≡ n ∷ ns → are_compatible n m ≡ true
 beside_each q [] m n ns e is = absurd (true≢false (cc))
 beside_each q (h ∷ hs) m n ns e is =
     elim (eqb_tells h.proc.0 q) [
-      | inl (t, _) ↦ (let k : h.mode ∷ modes_of q hs ≡ n ∷ ns = rw t at is in let s : h.mode ≡ n = cc in subst (λ x. are_shared x m ≡ true) s (both (are_shared h.mode m) (is_compatible hs m) e).0)
-      | inr (t, _) ↦ beside_each q hs m n ns (both (are_shared h.mode m) (is_compatible hs m) e).1 (rw t at is)
+      | inl (t, _) ↦ (let k : h.mode ∷ modes_of q hs ≡ n ∷ ns = rw t at is in let s : h.mode ≡ n = cc in subst (λ x. are_compatible x m ≡ true) s (both (are_compatible h.mode m) (is_compatible hs m) e).0)
+      | inr (t, _) ↦ beside_each q hs m n ns (both (are_compatible h.mode m) (is_compatible hs m) e).1 (rw t at is)
     ]
 
 -- two that hold a lock both hold it shared
-pub both_shared : (p q : ℕ) (hs : List Holder) (m n : Mode) (ms ns : List Mode) → are_compatible hs ≡ true → (p == q) ≡ false → modes_of p hs ≡ m ∷ ms → modes_of q hs ≡ n ∷ ns → are_shared m n ≡ true
+pub both_shared : (p q : ℕ) (hs : List Holder) (m n : Mode) (ms ns : List Mode) → all_compatible hs ≡ true → (p == q) ≡ false → modes_of p hs ≡ m ∷ ms → modes_of q hs ≡ n ∷ ns → are_compatible m n ≡ true
 both_shared p q [] m n ms ns e ne a b = absurd (true≢false (cc))
 both_shared p q (h ∷ hs) m n ms ns e ne a b = grind (arith, both_shared p q hs m n ms ns, beside_each p hs h.mode m ms, beside_each q hs h.mode n ns, shared_turned)
 
 -- whether holds are all shared
 abbrev pub are_all_shared : List Mode → Bool
 are_all_shared [] = true
-are_all_shared (mode ∷ modes) = are_shared mode Mode.Shared && are_all_shared modes
+are_all_shared (mode ∷ modes) = are_compatible mode Mode.Shared && are_all_shared modes
 
 -- shared holds more or less make no difference to shared holds
 pub without_shared : (p : ℕ) (hs : List Holder) → are_all_shared (modes_of p hs) ≡ true → is_compatible (without_holder p hs) Mode.Shared ≡ true → is_compatible hs Mode.Shared ≡ true

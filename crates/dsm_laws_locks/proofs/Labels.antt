@@ -45,17 +45,17 @@ pub record IsGrantFor {S : Type 0} (procs : ℕ) (s : PlainState S) (p : ℕ) (l
   pub possible : can_take procs s.held p lock.0 mode ≡ true
   pub is_version : version ≡ s.versions lock.0
 
-module _ {S : Type 0} (setup : Setup) (p : ℕ) (own : Surroundings) (s : PlainState S) (text : List ℕ) (same : IsSameSight setup.bindings p own (seen_by s p)) (grant : Option MailGrant) where
+module _ {S : Type 0} (setup : Setup) (p : ℕ) (own : Surroundings) (s : PlainState S) (text : List ℕ) (same : IsSameSight setup.bindings p own (seen_by s p)) (grants : ℕ → Option MailGrant) where
   plain_label : (want : Want) (label : Label) → is_possible setup.procs s p want ≡ true → ((lock : Lock) (mode : Mode) → want ≡ Want.Take lock mode → own.versions lock.0 ≡ s.versions lock.0) →
       label_of setup.bindings p own text want ≡ Some label → plain_turn_of setup s p text want ≡ Some label
   plain_label want label possible v e = rw possible (sym (label_same setup.bindings p own (seen_by s p) text same want v) ∙ e)
 
   -- the label of a turn that a processor can make by itself
-  pub same_label : (want : Want) (label : Label) → ((lock : Lock) (mode : Mode) → want ≡ Want.Take lock mode → is_some grant ≡ true → IsGrantFor setup.procs s p lock mode (own.versions lock.0)) →
-      (if is_ready grant want then label_of setup.bindings p own text want else None) ≡ Some label → plain_turn_of setup s p text want ≡ Some label
-  same_label (Want.Take lock mode) label take e = go (is_some grant) refl
+  pub same_label : (want : Want) (label : Label) → ((lock : Lock) (mode : Mode) → want ≡ Want.Take lock mode → is_some (grants lock.0) ≡ true → IsGrantFor setup.procs s p lock mode (own.versions lock.0)) →
+      (if is_ready grants want then label_of setup.bindings p own text want else None) ≡ Some label → plain_turn_of setup s p text want ≡ Some label
+  same_label (Want.Take lock mode) label take e = go (is_some (grants lock.0)) refl
     where
-      go : (b : Bool) → is_some grant ≡ b → plain_turn_of setup s p text (Want.Take lock mode) ≡ Some label
+      go : (b : Bool) → is_some (grants lock.0) ≡ b → plain_turn_of setup s p text (Want.Take lock mode) ≡ Some label
       go true c = plain_label (Want.Take lock mode) label (take lock mode refl c).possible (λ l m i. let k : l ≡ lock = cc in rw k (take lock mode refl c).is_version) (rw c at e)
       go false c = let k : None ≡ Some label = rw c at e in cc
   same_label (Want.Cross bar) label take e = cc

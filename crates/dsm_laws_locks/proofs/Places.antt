@@ -10,7 +10,7 @@ use Rattle.dsm_trace.specs.declared.lock.Waiting.{Waiting}
 use Rattle.dsm_trace.specs.declared.lock.LockState.{LockState}
 use Rattle.dsm_trace.specs.Locks.{is_compatible}
 use Rattle.dsm_trace.specs.Effects.{processor_named, lock_in}
-use Rattle.dsm_laws_locks.proofs.Holders.{modes_of, waits_of, are_compatible}
+use Rattle.dsm_laws_locks.proofs.Holders.{modes_of, waits_of, all_compatible}
 
 -- What is seen of a lock.
 
@@ -137,6 +137,6 @@ Brings P _ = Unit {0}
 pub record IsSound (IsVersion : ℕ → List CellValue → Type 0) (newest lock : ℕ) (v : View) (places : ℕ → Place) : Type 0 where
   pub sides : (q : ℕ) → side_of v q ≡ side_at lock q (v.turns q) (places q)
   pub brings : (q : ℕ) → Brings (IsCurrent IsVersion newest) (places q)
-  pub compatible : are_compatible v.desk.holders ≡ true
+  pub compatible : all_compatible v.desk.holders ≡ true
   pub is_version : IsVersion v.desk.version v.desk.cells
   pub is_newest : is_compatible v.desk.holders Mode.Shared ≡ true → v.desk.version ≡ newest

@@ -16,7 +16,7 @@ use Rattle.dsm_trace.specs.History.{deed_labels}
 use Rattle.dsm_trace.specs.Told.{Told}
 use Rattle.dsm_trace.proofs.Deeds.{IsLeftBy}
 use Rattle.dsm_laws_runs.specs.Versions.{AllAskFirst}
-use Rattle.dsm_laws_runs.specs.Steps.{Step, turns_of, deeds_by, IsAdequate}
+use Rattle.dsm_laws_steps.specs.Steps.{Step, turns_of, deeds_by, IsAdequate}
 use Rattle.dsm_laws_locks.proofs.Places.{Place, View, mail_of, taking_of, IsSound}
 use Rattle.dsm_laws_locks.proofs.Desks.{Sound}
 use Rattle.dsm_laws_locks.proofs.Turns.{stayed}
@@ -72,7 +72,7 @@ module _ {S : Type 0} (setup : Setup) (first : ℕ → S) (threads : Semantics S
   pub held_is : (q : ℕ) → (t.processors q).held ≡ (after_run first threads (turns_of steps)).held q
   held_is q = same_held setup first threads steps q (t.processors q) (left q)
 
-  pub can_take_by : (lock : Lock) (mode : Mode) (o : Option MailGrant) → grant_for ((t.processors p).turns + 1) (t.processors p).mail ≡ o → threads.want (t.processors p).thread ≡ Want.Take lock mode →
+  pub can_take_by : (lock : Lock) (mode : Mode) (o : Option MailGrant) → grant_for ((t.processors p).turns + 1) (t.processors p).mail lock.0 ≡ o → threads.want (t.processors p).thread ≡ Want.Take lock mode →
       is_some o ≡ true → IsGrantFor setup.procs plain p lock mode (version_of o)
   can_take_by lock mode None e want some = cc
   can_take_by lock mode (Some grant) e want some =
@@ -93,7 +93,7 @@ module _ {S : Type 0} (setup : Setup) (first : ℕ → S) (threads : Semantics S
         (same_label setup p (own_view (t.processors p)) plain (threads.text (t.processors p).thread)
         (same_sight setup first threads steps p (t.processors p) (left p) (all_ask setup first threads locked) reached.is_run reached.is_adequate locked.binds)
         (grant_for ((t.processors p).turns + 1) (t.processors p).mail) (threads.want (t.processors p).thread) label
-        (λ lock mode want some. can_take_by lock mode (grant_for ((t.processors p).turns + 1) (t.processors p).mail) refl want some)
+        (λ lock mode want some. can_take_by lock mode (grant_for ((t.processors p).turns + 1) (t.processors p).mail lock.0) refl want some)
         (rw own.is_ready own.is_label))
 
     is_shown : Shown (threads.want (t.processors p).thread) label

@@ -21,7 +21,7 @@ use Rattle.dsm_trace.specs.Told.{Told}
 use Rattle.dsm_trace.proofs.Deeds.{IsLeftBy}
 use Rattle.dsm_trace.proofs.Units.{next_by_step}
 use Rattle.dsm_laws_runs.specs.Versions.{makes_version}
-use Rattle.dsm_laws_runs.specs.Steps.{Step, turns_of, deeds_by}
+use Rattle.dsm_laws_steps.specs.Steps.{Step, turns_of, deeds_by}
 use Rattle.dsm_laws_locks.proofs.Members.{same_number, if_same, at_locks, back_same, back_false}
 use Rattle.dsm_laws_locks.proofs.Places.{word_of, Asked, Left, View, side_of, Saved, mail_of, taking_of, IsSound}
 use Rattle.dsm_laws_locks.proofs.Moves.{IsMailed, is_mailed}
@@ -325,12 +325,12 @@ module _ {S : Type 0} (setup : Setup) (first : ℕ → S) (threads : Semantics S
             ∙ ap₂ (λ m held. turned_view p m held None v_take) mail (if_same lock.0 (Some mode) (s.held lock.0) ∙ ap (λ m. Some m) (sym is.is_mode))
 
     take_turn : IsTurned (Label.Take lock mode version) (next_by_step setup threads t p (Some record { label = Label.Take lock mode version; cells = cells }))
-    take_turn = go (grant_for (s.turns + 1) s.mail) refl
+    take_turn = go (grant_for (s.turns + 1) s.mail lock.0) refl
       where
         want : threads.want s.thread ≡ Want.Take lock mode
         want = (take_wanted setup.bindings p (own_view s) (threads.text s.thread) (threads.want s.thread) lock mode version own.is_label).0
 
-        go : (o : Option MailGrant) → grant_for (s.turns + 1) s.mail ≡ o → IsTurned (Label.Take lock mode version) (with_processor t p (after_label (Label.Take lock mode version) cells))
+        go : (o : Option MailGrant) → grant_for (s.turns + 1) s.mail lock.0 ≡ o → IsTurned (Label.Take lock mode version) (with_processor t p (after_label (Label.Take lock mode version) cells))
         go None e = absurd (true≢false (sym (rw (want, e) at own.is_ready)))
         go (Some grant) e = taken_by grant (is_taken setup threads t _ reached.sound p lock mode grant want e)
 

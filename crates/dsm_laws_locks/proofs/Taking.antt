@@ -10,10 +10,10 @@ use Rattle.dsm_base.specs.Threads.{Semantics}
 use Rattle.dsm_base.specs.Plain.{can_take, may_stand_beside}
 use Rattle.dsm_trace.specs.declared.message.CellValue.{CellValue}
 use Rattle.dsm_trace.specs.declared.message.MailGrant.{MailGrant}
-use Rattle.dsm_trace.specs.Locks.{are_shared}
-use Rattle.dsm_trace.specs.Processor.{grant_for}
+use Rattle.dsm_base.specs.Holders.{are_compatible}
+use Rattle.dsm_trace.specs.Processor.{is_grant_for, grant_for}
 use Rattle.dsm_trace.specs.Told.{Told}
-use Rattle.dsm_laws_runs.proofs.Families.{all_from}
+use Rattle.dsm_base.proofs.Families.{all_from}
 use Rattle.dsm_laws_locks.proofs.Members.{turned_false}
 use Rattle.dsm_laws_locks.proofs.Holders.{modes_of, both_shared}
 use Rattle.dsm_laws_locks.proofs.Places.{mail_of, taking_of, side_of, side_at, Mailed, IsCurrent, Brings}
@@ -22,7 +22,7 @@ use Rattle.dsm_laws_locks.proofs.Desks.{Sound}
 use Rattle.dsm_laws_locks.proofs.Views.{view_of}
 use Rattle.dsm_laws_locks.proofs.Changes.{IsFound, found}
 
-stands_beside : (mode n : Mode) → are_shared mode n ≡ true → may_stand_beside mode (Some n) ≡ true
+stands_beside : (mode n : Mode) → are_compatible mode n ≡ true → may_stand_beside mode (Some n) ≡ true
 stands_beside mode n e = grind arith
 
 beside_none : (mode : Mode) → may_stand_beside mode None ≡ true
@@ -38,7 +38,7 @@ module _ {S : Type 0} (setup : Setup) (threads : Semantics S) (t : Told S) {IsVe
     pub is_place : (sound lock).places p ≡ Mailed mode record { version = grant.version; cells = grant.cells }
 
   pub is_taken : (lock : Lock) (mode : Mode) (grant : MailGrant) → threads.want (t.processors p).thread ≡ Want.Take lock mode →
-      grant_for ((t.processors p).turns + 1) (t.processors p).mail ≡ Some grant → IsTaken lock.0 mode grant
+      grant_for ((t.processors p).turns + 1) (t.processors p).mail lock.0 ≡ Some grant → IsTaken lock.0 mode grant
   is_taken lock mode grant want e =
       elim (eqb_tells lock.0 grant.lock.0) [
         | inl (u, i) ↦ subst (λ l. IsTaken l mode grant) (sym i) (record {
@@ -52,7 +52,7 @@ module _ {S : Type 0} (setup : Setup) (threads : Semantics S) (t : Told S) {IsVe
       ]
     where
       at_lock : IsFound grant (mail_of grant.lock.0 (t.processors p).mail)
-      at_lock = found (λ g. g.turn == (t.processors p).turns + 1) (t.processors p).mail grant e
+      at_lock = found (is_grant_for lock.0 ((t.processors p).turns + 1)) (t.processors p).mail grant e
 
       mailed : IsMailed grant.lock.0 p (t.processors p).turns (side_of (view_of setup threads t grant.lock.0) p) ((sound grant.lock.0).places p) at_lock.head at_lock.rest
       mailed = is_mailed grant.lock.0 p (t.processors p).turns (side_of (view_of setup threads t grant.lock.0) p) at_lock.head at_lock.rest ((sound grant.lock.0).places p) ((sound grant.lock.0).sound.sides p) at_lock.is_mail

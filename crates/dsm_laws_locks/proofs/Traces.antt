@@ -31,8 +31,8 @@ use Rattle.dsm_trace.specs.OneMemory.{BindsLocksOnly, IsOneMemory}
 use Rattle.dsm_trace.proofs.Units.{next_by_step, next_told, told_by_unit, trace_numbered}
 use Rattle.dsm_trace.proofs.Deeds.{IsLeftBy, trace_left}
 use Rattle.dsm_laws_runs.specs.Versions.{memory_at}
-use Rattle.dsm_laws_runs.specs.Steps.{Step, turns_of, deeds_by, Brings}
-use Rattle.dsm_laws_runs.proofs.Copies.{agrees_with}
+use Rattle.dsm_laws_steps.specs.Steps.{Step, turns_of, deeds_by, Brings}
+use Rattle.dsm_laws_steps.proofs.Copies.{agrees_with}
 use Rattle.dsm_laws_locks.proofs.Places.{Out}
 use Rattle.dsm_laws_locks.proofs.Wants.{take_wanted, not_taking}
 use Rattle.dsm_laws_locks.proofs.Saved.{AreWithin, saved_brings}
@@ -84,7 +84,7 @@ with_step p (Some deed) steps = record { proc = p; deed = deed } ∷ steps
 
 abbrev next_steps : {S : Type 0} → Setup → Semantics S → Told S → Act → List Step → List Step
 next_steps setup threads t (Act.Step p) steps = with_step p.0 (own_turn setup threads p.0 (t.processors p.0)) steps
-next_steps setup threads t (Act.Deliver p q) steps = steps
+next_steps setup threads t _ steps = steps
 
 no_step_sent : (before : List Step) (sent : ℕ) (msgs : List Msg) → steps_onto before (sent_records sent msgs) ≡ before
 no_step_sent before sent [] = refl
@@ -108,6 +108,11 @@ module _ {S : Type 0} (setup : Setup) (first : ℕ → S) (threads : Semantics S
   steps_of_records : (t : Told S) (act : Act) (before : List Step) → steps_onto before (unit_records setup threads t act) ≡ next_steps setup threads t act before
   steps_of_records t (Act.Step p) before = steps_of_step t p.0 (own_turn setup threads p.0 (t.processors p.0)) before
   steps_of_records t (Act.Deliver p q) before = steps_of_delivery t q.0 (t.under_way p.0 q.0) before
+  steps_of_records t (Act.Ckpt p) before = refl
+  steps_of_records t (Act.Block p) before = refl
+  steps_of_records t (Act.Crash p) before = refl
+  steps_of_records t (Act.Torn p bytes) before = refl
+  steps_of_records t (Act.Restart p) before = refl
 
   steps_with : (unit : ℕ) (rs : List Rec) (before : List Group) → steps_of (with_unit unit rs before) ≡ steps_onto (steps_of before) rs
   steps_with unit [] before = refl
@@ -120,19 +125,19 @@ module _ {S : Type 0} (setup : Setup) (first : ℕ → S) (threads : Semantics S
   module _ (p : ℕ) where
     take_brings : (lock : _) (mode : Mode) (version : ℕ) (cells : List CellValue) → IsOwnTurn setup threads p (t.processors p) record { label = Label.Take lock mode version; cells = cells } →
         Brings setup (memory_at first threads (turns_of steps)) (own_copy (deeds_by p steps)) (Label.Take lock mode version) cells
-    take_brings lock mode version cells own = go (grant_for ((t.processors p).turns + 1) (t.processors p).mail) refl
+    take_brings lock mode version cells own = go (grant_for ((t.processors p).turns + 1) (t.processors p).mail lock.0) refl
       where
-        wanted : (threads.want (t.processors p).thread ≡ Want.Take lock mode) × (version ≡ version_of (grant_for ((t.processors p).turns + 1) (t.processors p).mail))
+        wanted : (threads.want (t.processors p).thread ≡ Want.Take lock mode) × (version ≡ version_of (grant_for ((t.processors p).turns + 1) (t.processors p).mail lock.0))
         wanted = take_wanted setup.bindings p (own_view (t.processors p)) (threads.text (t.processors p).thread) (threads.want (t.processors p).thread) lock mode version own.is_label
 
-        by_grant : (grant : MailGrant) → grant_for ((t.processors p).turns + 1) (t.processors p).mail ≡ Some grant → version ≡ grant.version → cells ≡ grant.cells →
+        by_grant : (grant : MailGrant) → grant_for ((t.processors p).turns + 1) (t.processors p).mail lock.0 ≡ Some grant → version ≡ grant.version → cells ≡ grant.cells →
             Brings setup (memory_at first threads (turns_of steps)) (own_copy (deeds_by p steps)) (Label.Take lock mode version) cells
         by_grant grant e v c =
             let is : IsTaken setup threads t _ reached.sound p lock.0 mode grant = is_taken setup threads t _ reached.sound p lock mode grant wanted.0 e in
             rw (v, c) (saved_brings setup first threads locked.within (turns_of steps) lock.0 grant.version grant.cells (own_copy (deeds_by p steps))
             (taken_current setup threads t _ reached.sound p lock.0 mode grant is).is_version)
 
-        go : (o : Option MailGrant) → grant_for ((t.processors p).turns + 1) (t.processors p).mail ≡ o → Brings setup (memory_at first threads (turns_of steps)) (own_copy (deeds_by p steps)) (Label.Take lock mode version) cells
+        go : (o : Option MailGrant) → grant_for ((t.processors p).turns + 1) (t.processors p).mail lock.0 ≡ o → Brings setup (memory_at first threads (turns_of steps)) (own_copy (deeds_by p steps)) (Label.Take lock mode version) cells
         go None e = absurd (true≢false (sym (rw (wanted.0, e) at own.is_ready)))
         go (Some grant) e = by_grant grant e (rw e at wanted.1) (rw e at own.is_cells)
 
@@ -168,6 +173,11 @@ module _ {S : Type 0} (setup : Setup) (first : ℕ → S) (threads : Semantics S
       let after : IsDelivered setup first threads (turns_of steps) (next_told setup threads t (Act.Deliver p q)) =
       delivery_reaches setup first threads (turns_of steps) t reached.is_routed reached.sound p.0 q.0 (t.under_way p.0 q.0) refl in
       record { is_run = reached.is_run; is_adequate = reached.is_adequate; is_routed = after.is_routed; sound = after.sound }
+  unit_reaches (Act.Ckpt p) within = reached
+  unit_reaches (Act.Block p) within = reached
+  unit_reaches (Act.Crash p) within = reached
+  unit_reaches (Act.Torn p bytes) within = reached
+  unit_reaches (Act.Restart p) within = reached
 
 -- Traces.
 

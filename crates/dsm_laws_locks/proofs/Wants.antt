@@ -100,7 +100,7 @@ asks (Want.Store cell value line) answer lock mode c = absurd (cc)
 asks (Want.Give other line) answer lock mode c = absurd (cc)
 asks (Want.Arrive bar) answer lock mode c = absurd (cc)
 asks Want.End answer lock mode c = absurd (cc)
-asks (Want.Stop fault line) answer lock mode c = absurd c
+asks (Want.Stop fault line) answer lock mode c = absurd (cc)
 asks Want.Over answer lock mode c = absurd c
 
 -- after an ask the lock is to be taken, and after nothing else

@@ -14,5 +14,8 @@ use dsm_base::TaskMaker;
 /// The history of a trace that fits its units is a run over one memory, with which each processor
 /// agrees, where every piece is bound to a lock.
 pub fn one_memory<M: TaskMaker>()
-    ensures { (maker : M) (setup : Setup) (units : List Act) (trace : List Group) → BindsLocksOnly setup → AllByRecursion (IsWithin setup) units → FitsUnits setup (M.first maker setup.procs) M.Made.semantics units trace → IsOneMemory setup (M.first maker setup.procs) M.Made.semantics trace }
+    ensures { (maker : M) (setup : Setup) (units : List Act) (trace : List Group) →
+        BindsLocksOnly setup → AllByRecursion (IsWithin setup) units →
+        FitsUnits setup (M.first maker setup.procs) M.Made.kind.semantics units trace →
+        IsOneMemory setup (M.first maker setup.procs) M.Made.kind.semantics trace }
 {}

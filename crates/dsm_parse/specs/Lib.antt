@@ -1,9 +1,4 @@
-pub mod Operators
-pub mod Grammar
-pub mod Heights
-pub mod Programs
-pub mod Refusals
-pub mod Signs
-pub mod Expressions
-pub mod Statements
-pub mod Items
+pub mod Heads
+pub use Rattle.dsm_syntax.specs.Lexemes
+pub use Rattle.dsm_laws_grammar.specs.Programs
+pub use Rattle.dsm_laws_grammar.specs.Refusals

@@ -1,12 +1,11 @@
 //! Bindings of data to locks and barriers.
 
 ghost use Rattle.dsm_syntax.specs.Views.{view_item};
-ghost use Rattle.dsm_cursor.specs.Gives.{Gives};
-ghost use Rattle.dsm_parse.specs.Items as r;
+ghost use Rattle.dsm_syntax.specs.Gives.{Gives};
+ghost use Rattle.dsm_laws_grammar.specs.Items as r;
 
 use crate::declarator::size;
-use dsm_cursor::{Cursor, Refusal};
-use dsm_syntax::{Bind, BindBarrier, BindEach, Item, Name, Sign, Word};
+use dsm_syntax::{Bind, BindBarrier, BindEach, Cursor, Item, Name, Refusal, Sign, Word};
 use std::alloc::Global;
 
 /// A comma and a name.

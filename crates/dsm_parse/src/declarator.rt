@@ -2,13 +2,12 @@
 
 ghost use Rattle.std.specs.Prelude.{[], ◌∷◌};
 ghost use Rattle.dsm_syntax.specs.Views.{view_item};
-ghost use Rattle.dsm_cursor.specs.Gives.{Gives};
-ghost use Rattle.dsm_cursor.specs.Reading.{gathered, more_of, list_of};
-ghost use Rattle.dsm_cursor.specs.Tokens.{read_name};
-ghost use Rattle.dsm_parse.specs.Items as r;
+ghost use Rattle.dsm_syntax.specs.Gives.{Gives};
+ghost use Rattle.dsm_syntax.specs.Reading.{gathered, more_of, list_of};
+ghost use Rattle.dsm_syntax.specs.Tokens.{read_name};
+ghost use Rattle.dsm_laws_grammar.specs.Items as r;
 
-use dsm_cursor::{Cursor, Refusal};
-use dsm_syntax::{Declarator, Item, Name, Sharing, Sign, Word};
+use dsm_syntax::{Cursor, Declarator, Item, Name, Refusal, Sharing, Sign, Word};
 use std::alloc::Global;
 
 /// A number in brackets, where a bracket comes next.
@@ -44,7 +43,8 @@ fn declarators_behind(
     cursor: &mut Cursor<'_>,
     first: Declarator,
 ) -> Result<Vec<Declarator>, Refusal>
-    ensures { Gives (λ all. all.items) (gathered (first ∷ []) (more_of r.declarator) cursor.old) result cursor.new }
+    ensures { Gives (λ all. all.items) (gathered (first ∷ []) (more_of r.declarator) cursor.old)
+        result cursor.new }
 {
     let mut all = Vec::new(alloc);
     all.push(first)?;

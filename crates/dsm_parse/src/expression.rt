@@ -3,16 +3,14 @@
 ghost use Rattle.std.specs.Prelude.{◌≡◌, ◌+◌, ◌≤◌, ◌<◌, ◌^◌, if◌then◌else◌, map, IfOk, OnOk, OnErr};
 ghost use Rattle.dsm_syntax.specs.Tree as tree;
 ghost use Rattle.dsm_syntax.specs.Views.{view, view_place};
-ghost use Rattle.dsm_parse.specs.Heights.{height, height_place, height_arguments};
-ghost use Rattle.dsm_cursor.specs.Reading.{tail, list_of};
-ghost use Rattle.dsm_cursor.specs.Gives.{Gives};
-ghost use Rattle.dsm_parse.specs.Expressions as reader;
-ghost use Rattle.dsm_parse.specs.Expressions.{below, expressions};
+ghost use Rattle.dsm_syntax.specs.Heights.{height, height_place, height_arguments};
+ghost use Rattle.dsm_syntax.specs.Reading.{tail, list_of};
+ghost use Rattle.dsm_syntax.specs.Gives.{Gives};
+ghost use Rattle.dsm_laws_grammar.specs.Expressions as reader;
+ghost use Rattle.dsm_laws_grammar.specs.Expressions.{below, expressions};
 
 use crate::measured::Measured;
-use crate::operator::{Infix, Lead, level, next_step};
-use dsm_cursor::{Cursor, Refusal};
-use dsm_syntax::{Expr, Name, Place, Sign};
+use dsm_syntax::{Cursor, Expression, Infix, Lead, Name, Place, Refusal, Sign, level, next_step};
 use std::alloc::Global;
 
 /// What may stand where any expression may.
@@ -24,16 +22,17 @@ const CHOICE: u8 = 1;
 /// What may stand behind an operator that has one side.
 const UNARY: u8 = 12;
 
-/// Reads an expression that has at most so many nodes on a way down. The cursor is left at a token that is refused:
+/// Reads an expression that has at most so many nodes on a way down. The cursor is left at a token
+/// that is refused:
 ///
 /// - `Unexpected` comes for the first token with which no expression goes on.
 /// - `TooHigh` comes for the first one with which only higher expressions do.
-/// - `Memory` comes for want of memory.
+/// - `Memory` comes where memory runs out.
 pub fn expression(
     alloc: Global,
     cursor: &mut Cursor<'_>,
     most: u32,
-) -> Result<Measured<Expr>, Refusal>
+) -> Result<Measured<Expression>, Refusal>
     ensures read { Gives (λ e. view e.tree) (reader.expression most cursor.old) result cursor.new }
     ensures height { IfOk result (λ e. e.height ≡ height (view e.tree)) }
     ensures low { IfOk result (λ e. e.height ≤ most) }
@@ -52,7 +51,8 @@ fn none_fits(begins: bool) -> Refusal
     }
 }
 
-/// Passes over a token that makes a node over what is so high, where at most so many levels may be below a node.
+/// Passes over a token that makes a node over what is so high, where at most so many levels may be
+/// below a node.
 fn rise(cursor: &mut Cursor<'_>, depth: u32, height: u32) -> Result<(), Refusal>
     ensures taken { OnOk result ((height ≤ depth) × (cursor.new ≡ tail cursor.old)) }
     ensures refused { OnErr result ((depth < height) × (cursor.new ≡ cursor.old)) }
@@ -72,8 +72,9 @@ fn at_least(
     cursor: &mut Cursor<'_>,
     most: u32,
     least: u8,
-) -> Result<Measured<Expr>, Refusal>
-    ensures read { Gives (λ e. view e.tree) ((below most).at_least least cursor.old) result cursor.new }
+) -> Result<Measured<Expression>, Refusal>
+    ensures read { Gives (λ e. view e.tree) ((below most).at_least least cursor.old)
+        result cursor.new }
     ensures height { IfOk result (λ e. e.height ≡ height (view e.tree)) }
     ensures low { IfOk result (λ e. e.height ≤ most) }
 {
@@ -107,7 +108,8 @@ fn place_behind(
     name: Name,
 ) -> Result<Measured<Place>, Refusal>
     requires { depth + 1 < 2 ^ 32 }
-    ensures read { Gives (λ p. view_place p.tree) (reader.place_behind depth (below depth) name cursor.old) result cursor.new }
+    ensures read { Gives (λ p. view_place p.tree)
+        (reader.place_behind depth (below depth) name cursor.old) result cursor.new }
     ensures height { IfOk result (λ p. p.height ≡ height_place (view_place p.tree)) }
     ensures low { IfOk result (λ p. p.height ≤ depth + 1) }
 {
@@ -131,33 +133,40 @@ fn stepped(
     cursor: &mut Cursor<'_>,
     depth: u32,
     place: Measured<Place>,
-) -> Result<Measured<Expr>, Refusal>
+) -> Result<Measured<Expression>, Refusal>
     requires depth { depth + 1 < 2 ^ 32 }
     requires height { place.height ≡ height_place (view_place place.tree) }
     requires low { place.height ≤ depth + 1 }
-    ensures read { Gives (λ e. view e.tree) (reader.stepped depth (below depth) (view_place place.tree) cursor.old) result cursor.new }
+    ensures read { Gives (λ e. view e.tree)
+        (reader.stepped depth (below depth) (view_place place.tree) cursor.old)
+        result cursor.new }
     ensures height { IfOk result (λ e. e.height ≡ height (view e.tree)) }
     ensures low { IfOk result (λ e. e.height ≤ depth + 1) }
 {
     let Measured { tree, height } = place;
     let Some((op, line)) = next_step(cursor) else {
         return Ok(Measured {
-            tree: Expr::Place(tree),
+            tree: Expression::Place(tree),
             height,
         });
     };
     rise(cursor, depth, height)?;
     Ok(Measured {
-        tree: Expr::Postfix(tree, op, line),
+        tree: Expression::Postfix(tree, op, line),
         height: height + 1,
     })
 }
 
 /// Reads what stands between operators that have two sides.
 #[cycle(expression)]
-fn operand(alloc: Global, cursor: &mut Cursor<'_>, depth: u32) -> Result<Measured<Expr>, Refusal>
+fn operand(
+    alloc: Global,
+    cursor: &mut Cursor<'_>,
+    depth: u32,
+) -> Result<Measured<Expression>, Refusal>
     requires { depth + 1 < 2 ^ 32 }
-    ensures read { Gives (λ e. view e.tree) (reader.operand depth (below depth) cursor.old) result cursor.new }
+    ensures read { Gives (λ e. view e.tree) (reader.operand depth (below depth) cursor.old)
+        result cursor.new }
     ensures height { IfOk result (λ e. e.height ≡ height (view e.tree)) }
     ensures low { IfOk result (λ e. e.height ≤ depth + 1) }
 {
@@ -165,7 +174,7 @@ fn operand(alloc: Global, cursor: &mut Cursor<'_>, depth: u32) -> Result<Measure
         Lead::Number(number) => {
             cursor.skip();
             Ok(Measured {
-                tree: Expr::Number(number),
+                tree: Expression::Number(number),
                 height: 1,
             })
         }
@@ -178,7 +187,7 @@ fn operand(alloc: Global, cursor: &mut Cursor<'_>, depth: u32) -> Result<Measure
             let Measured { tree, height } = at_least(alloc, cursor, depth, ANY)?;
             cursor.expect(Sign::ParenClose)?;
             Ok(Measured {
-                tree: Expr::Paren(Box::new(alloc, tree)?),
+                tree: Expression::Paren(Box::new(alloc, tree)?),
                 height: height + 1,
             })
         }
@@ -186,7 +195,7 @@ fn operand(alloc: Global, cursor: &mut Cursor<'_>, depth: u32) -> Result<Measure
             rise(cursor, depth, 1)?;
             let Measured { tree, height } = at_least(alloc, cursor, depth, UNARY)?;
             Ok(Measured {
-                tree: Expr::Unary(op, line, Box::new(alloc, tree)?),
+                tree: Expression::Unary(op, line, Box::new(alloc, tree)?),
                 height: height + 1,
             })
         }
@@ -194,7 +203,7 @@ fn operand(alloc: Global, cursor: &mut Cursor<'_>, depth: u32) -> Result<Measure
             rise(cursor, depth, 1)?;
             let Measured { tree, height } = place(alloc, cursor, depth)?;
             Ok(Measured {
-                tree: Expr::Prefix(op, line, tree),
+                tree: Expression::Prefix(op, line, tree),
                 height: height + 1,
             })
         }
@@ -203,10 +212,10 @@ fn operand(alloc: Global, cursor: &mut Cursor<'_>, depth: u32) -> Result<Measure
 }
 
 /// A call of a function with these arguments.
-fn call(name: Name, list: Vec<Expr>) -> Expr
+fn call(name: Name, list: Vec<Expression>) -> Expression
     ensures { view result ≡ tree.call name (expressions (map view list.items)) }
 {
-    Expr::Call(name, list)
+    Expression::Call(name, list)
 }
 
 /// Goes on behind a name that an expression begins with.
@@ -216,9 +225,10 @@ fn named(
     cursor: &mut Cursor<'_>,
     depth: u32,
     name: Name,
-) -> Result<Measured<Expr>, Refusal>
+) -> Result<Measured<Expression>, Refusal>
     requires { depth + 1 < 2 ^ 32 }
-    ensures read { Gives (λ e. view e.tree) (reader.named_behind depth (below depth) name cursor.old) result cursor.new }
+    ensures read { Gives (λ e. view e.tree)
+        (reader.named_behind depth (below depth) name cursor.old) result cursor.new }
     ensures height { IfOk result (λ e. e.height ≡ height (view e.tree)) }
     ensures low { IfOk result (λ e. e.height ≤ depth + 1) }
 {
@@ -248,11 +258,13 @@ fn arguments(
     alloc: Global,
     cursor: &mut Cursor<'_>,
     depth: u32,
-) -> Result<Measured<Vec<Expr>>, Refusal>
+) -> Result<Measured<Vec<Expression>>, Refusal>
     requires depth { depth + 1 < 2 ^ 32 }
     requires over { 1 ≤ depth }
-    ensures read { Gives (λ list. map view list.tree.items) (list_of ((below depth).at_least 0) cursor.old) result cursor.new }
-    ensures height { IfOk result (λ list. list.height ≡ height_arguments (expressions (map view list.tree.items))) }
+    ensures read { Gives (λ list. map view list.tree.items)
+        (list_of ((below depth).at_least 0) cursor.old) result cursor.new }
+    ensures height { IfOk result
+        (λ list. list.height ≡ height_arguments (expressions (map view list.tree.items))) }
     ensures low { IfOk result (λ list. list.height ≤ depth) }
 {
     let first = at_least(alloc, cursor, depth, ANY)?;
@@ -275,12 +287,14 @@ fn climb(
     cursor: &mut Cursor<'_>,
     depth: u32,
     least: u8,
-    first: Measured<Expr>,
-) -> Result<Measured<Expr>, Refusal>
+    first: Measured<Expression>,
+) -> Result<Measured<Expression>, Refusal>
     requires depth { depth + 1 < 2 ^ 32 }
     requires height { first.height ≡ height (view first.tree) }
     requires low { first.height ≤ depth + 1 }
-    ensures read { Gives (λ e. view e.tree) (reader.climb depth (below depth) depth least (view first.tree) cursor.old) result cursor.new }
+    ensures read { Gives (λ e. view e.tree)
+        (reader.climb depth (below depth) depth least (view first.tree) cursor.old)
+        result cursor.new }
     ensures height { IfOk result (λ e. e.height ≡ height (view e.tree)) }
     ensures low { IfOk result (λ e. e.height ≤ depth + 1) }
 {
@@ -303,12 +317,14 @@ fn operation(
     depth: u32,
     operator: Infix,
     line: u32,
-    left: Measured<Expr>,
-) -> Result<Measured<Expr>, Refusal>
+    left: Measured<Expression>,
+) -> Result<Measured<Expression>, Refusal>
     requires depth { depth + 1 < 2 ^ 32 }
     requires height { left.height ≡ height (view left.tree) }
     requires low { left.height ≤ depth }
-    ensures read { Gives (λ e. view e.tree) (reader.operation depth (below depth) (Some (operator, line)) (view left.tree) cursor.old) result cursor.new }
+    ensures read { Gives (λ e. view e.tree)
+        (reader.operation depth (below depth) (Some (operator, line)) (view left.tree) cursor.old)
+        result cursor.new }
     ensures height { IfOk result (λ e. e.height ≡ height (view e.tree)) }
     ensures low { IfOk result (λ e. e.height ≤ depth + 1) }
     ensures risen { IfOk result (λ e. left.height + 1 ≤ e.height) }
@@ -320,19 +336,19 @@ fn operation(
             let height = height.max(right.height) + 1;
             let (a, b) = (Box::new(alloc, tree)?, Box::new(alloc, right.tree)?);
             Ok(Measured {
-                tree: Expr::Binary(a, op, line, b),
+                tree: Expression::Binary(a, op, line, b),
                 height,
             })
         }
         Infix::Question => choice(alloc, cursor, depth, line, Measured { tree, height }),
         Infix::Assign(op) => {
-            let Expr::Place(place) = tree else {
+            let Expression::Place(place) = tree else {
                 return Err(Refusal::Unexpected);
             };
             let right = at_least(alloc, cursor, depth, ANY)?;
             let height = height.max(right.height) + 1;
             Ok(Measured {
-                tree: Expr::Assign(place, op, line, Box::new(alloc, right.tree)?),
+                tree: Expression::Assign(place, op, line, Box::new(alloc, right.tree)?),
                 height,
             })
         }
@@ -346,12 +362,14 @@ fn choice(
     cursor: &mut Cursor<'_>,
     depth: u32,
     line: u32,
-    test: Measured<Expr>,
-) -> Result<Measured<Expr>, Refusal>
+    test: Measured<Expression>,
+) -> Result<Measured<Expression>, Refusal>
     requires depth { depth + 1 < 2 ^ 32 }
     requires height { test.height ≡ height (view test.tree) }
     requires low { test.height ≤ depth }
-    ensures read { Gives (λ e. view e.tree) (reader.operation depth (below depth) (Some (Infix.Question, line)) (view test.tree) cursor.old) result cursor.new }
+    ensures read { Gives (λ e. view e.tree)
+        (reader.operation depth (below depth) (Some (Infix.Question, line)) (view test.tree)
+        cursor.old) result cursor.new }
     ensures height { IfOk result (λ e. e.height ≡ height (view e.tree)) }
     ensures low { IfOk result (λ e. e.height ≤ depth + 1) }
     ensures risen { IfOk result (λ e. test.height + 1 ≤ e.height) }
@@ -362,7 +380,7 @@ fn choice(
     let height = test.height.max(then.height.max(other.height)) + 1;
     let (a, b) = (Box::new(alloc, then.tree)?, Box::new(alloc, other.tree)?);
     Ok(Measured {
-        tree: Expr::Choice(Box::new(alloc, test.tree)?, line, a, b),
+        tree: Expression::Choice(Box::new(alloc, test.tree)?, line, a, b),
         height,
     })
 }

@@ -2,13 +2,12 @@
 
 ghost use Rattle.std.specs.Prelude.{◌<◌, ◌^◌};
 ghost use Rattle.dsm_syntax.specs.Views.{view_item, view_params};
-ghost use Rattle.dsm_cursor.specs.Gives.{Gives};
-ghost use Rattle.dsm_cursor.specs.Reading.{list_of};
-ghost use Rattle.dsm_parse.specs.Items as r;
+ghost use Rattle.dsm_syntax.specs.Gives.{Gives};
+ghost use Rattle.dsm_syntax.specs.Reading.{list_of};
+ghost use Rattle.dsm_laws_grammar.specs.Items as r;
 
 use crate::statement::body;
-use dsm_cursor::{Cursor, Refusal};
-use dsm_syntax::{Function, Item, Name, Params, Returns, Sign, Word};
+use dsm_syntax::{Cursor, Function, Item, Name, Params, Refusal, Returns, Sign, Word};
 use std::alloc::Global;
 
 /// The word `int` and a name.

@@ -2,23 +2,23 @@
 
 ghost use Rattle.std.specs.Prelude.{◌≡◌, ◌<◌, ◌^◌, false};
 ghost use Rattle.dsm_syntax.specs.Views.{view, view_start, option_view};
-ghost use Rattle.dsm_cursor.specs.Lexemes.{is_placed_sign};
-ghost use Rattle.dsm_cursor.specs.Gives.{Gives};
-ghost use Rattle.dsm_parse.specs.Expressions.{expression};
-ghost use Rattle.dsm_parse.specs.Statements as reader;
+ghost use Rattle.dsm_syntax.specs.Lexemes.{is_placed_sign};
+ghost use Rattle.dsm_syntax.specs.Gives.{Gives};
+ghost use Rattle.dsm_laws_grammar.specs.Expressions.{expression};
+ghost use Rattle.dsm_laws_grammar.specs.Statements as reader;
+ghost use Rattle.dsm_parse.specs.Heads.{view_head};
 
 use crate::expression::expression;
 use crate::variable::variables;
-use dsm_cursor::{Cursor, Refusal};
-use dsm_syntax::{Expr, ForStart, Sign, Word};
+use dsm_syntax::{Cursor, Expression, ForStart, Refusal, Sign, Word};
 use std::alloc::Global;
 
 /// What stands in the parentheses of a `for`.
 #[derive(Drop)]
 pub struct ForHead {
     pub start: ForStart,
-    pub test: Option<Expr>,
-    pub step: Option<Expr>,
+    pub test: Option<Expression>,
+    pub step: Option<Expression>,
 }
 
 /// Reads an expression, or none where this sign comes next.
@@ -27,10 +27,11 @@ pub fn unless_sign(
     cursor: &mut Cursor<'_>,
     most: u32,
     sign: Sign,
-) -> Result<Option<Expr>, Refusal>
+) -> Result<Option<Expression>, Refusal>
     requires depth { most < 2 ^ 28 }
     requires plain { is_placed_sign sign ≡ false }
-    ensures { Gives (option_view view) (reader.unless_sign sign (expression most) cursor.old) result cursor.new }
+    ensures { Gives (option_view view) (reader.unless_sign sign (expression most) cursor.old)
+        result cursor.new }
 {
     if cursor.is_sign(sign) {
         return Ok(None);
@@ -39,7 +40,7 @@ pub fn unless_sign(
 }
 
 /// Reads a condition in parentheses.
-pub fn test(alloc: Global, cursor: &mut Cursor<'_>, most: u32) -> Result<Expr, Refusal>
+pub fn test(alloc: Global, cursor: &mut Cursor<'_>, most: u32) -> Result<Expression, Refusal>
     requires { most < 2 ^ 28 }
     ensures { Gives view (reader.test most cursor.old) result cursor.new }
 {
@@ -66,7 +67,7 @@ fn start(alloc: Global, cursor: &mut Cursor<'_>, most: u32) -> Result<ForStart, 
 /// Reads the parentheses of a `for`, and what stands in them.
 pub fn for_head(alloc: Global, cursor: &mut Cursor<'_>, most: u32) -> Result<ForHead, Refusal>
     requires { most < 2 ^ 28 }
-    ensures { Gives reader.view_head (reader.head most cursor.old) result cursor.new }
+    ensures { Gives view_head (reader.head most cursor.old) result cursor.new }
 {
     cursor.expect(Sign::ParenOpen)?;
     let start = start(alloc, cursor, most)?;

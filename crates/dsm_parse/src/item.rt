@@ -2,14 +2,13 @@
 
 ghost use Rattle.std.specs.Prelude.{◌≤◌, ◌<◌, ◌^◌};
 ghost use Rattle.dsm_syntax.specs.Views.{view_item, view_items};
-ghost use Rattle.dsm_cursor.specs.Gives.{Gives};
-ghost use Rattle.dsm_parse.specs.Items as r;
+ghost use Rattle.dsm_syntax.specs.Gives.{Gives};
+ghost use Rattle.dsm_laws_grammar.specs.Items as r;
 
 use crate::binding::binding;
 use crate::declarator::{barriers, locks, private_data, shared_data};
 use crate::function::function;
-use dsm_cursor::{Cursor, Refusal};
-use dsm_syntax::{Item, Returns, Sign, Word};
+use dsm_syntax::{Cursor, Item, Refusal, Returns, Sign, Word};
 use std::alloc::Global;
 
 /// Data or a function, behind the word `int`.

@@ -7,15 +7,11 @@ mod expression;
 mod function;
 mod head;
 mod item;
-mod kind;
-mod laws;
 mod measured;
-mod operator;
 mod print;
 mod program;
 mod simple;
 mod statement;
 mod variable;
 
-pub use laws::{one_tree, refused_for_good, tree_or_refusal};
 pub use program::parse;

@@ -5,13 +5,12 @@ ghost use Rattle.dsm_syntax.specs.declared.errors.ProgErr.{ProgErr};
 ghost use Rattle.dsm_syntax.specs.Tree.{Item};
 ghost use Rattle.dsm_syntax.specs.Programs.{view_tree};
 ghost use Rattle.dsm_syntax.specs.Views.{view_items};
-ghost use Rattle.dsm_cursor.specs.Lexemes.{lexemes};
-ghost use Rattle.dsm_parse.specs.Programs.{IsProgramOf};
-ghost use Rattle.dsm_parse.specs.Refusals.{line_at, IsRefused};
+ghost use Rattle.dsm_syntax.specs.Lexemes.{lexemes};
+ghost use Rattle.dsm_laws_grammar.specs.Programs.{IsProgramOf};
+ghost use Rattle.dsm_laws_grammar.specs.Refusals.{line_at, IsRefused};
 
 use crate::item::items;
-use dsm_cursor::{Cursor, Refusal};
-use dsm_syntax::{ProgErr, Token, Tokens, Tree, Which};
+use dsm_syntax::{Cursor, ProgErr, Refusal, Token, Tokens, Tree, Which};
 use std::alloc::Global;
 
 /// How many nodes there may be on a way down in a function.
@@ -49,10 +48,11 @@ fn read(alloc: Global, tokens: &[Token], most: u32) -> Result<Vec<dsm_syntax::It
 
 /// The tree of a program that the tokens spell.
 ///
-/// - `Unexpected` comes for the first token at which no program begins with the tokens up to it, with its line. The end
-///   of the text is a last token, in the line of the token before it.
-/// - `Limit` of `Nesting` comes, with 65, for the first token at which only programs with a function higher than 64 do.
-/// - `Memory` comes for want of memory.
+/// - `Unexpected` comes for the first token at which no program begins with the tokens up to it,
+///   with its line. The end of the text is a last token, in the line of the token before it.
+/// - `Limit` of `Nesting` comes, with 65, for the first token at which only programs with a
+///   function higher than 64 do.
+/// - `Memory` comes where memory runs out.
 pub fn parse(alloc: Global, tokens: &Tokens) -> Result<Tree, ProgErr>
     ensures found { IfOk result (λ tree. IsProgramOf (lexemes tokens.now) (view_tree tree)) }
     ensures refused { IfErr result (IsRefused tokens.now) }

@@ -2,16 +2,15 @@
 
 ghost use Rattle.std.specs.Prelude.{◌<◌, ◌^◌};
 ghost use Rattle.dsm_syntax.specs.Views.{view_place, view_statement};
-ghost use Rattle.dsm_cursor.specs.Gives.{Gives};
-ghost use Rattle.dsm_cursor.specs.Reading.{ok};
-ghost use Rattle.dsm_parse.specs.Statements as reader;
+ghost use Rattle.dsm_syntax.specs.Gives.{Gives};
+ghost use Rattle.dsm_syntax.specs.Reading.{ok};
+ghost use Rattle.dsm_laws_grammar.specs.Statements as reader;
 
 use crate::expression::{expression, place};
 use crate::head::unless_sign;
 use crate::print::parts;
 use crate::variable::variables;
-use dsm_cursor::{Cursor, Refusal};
-use dsm_syntax::{Name, Place, Sign, Stmt};
+use dsm_syntax::{Cursor, Name, Place, Refusal, Sign, Statement};
 use std::alloc::Global;
 
 /// Passes over the first word of a statement that has something below it.
@@ -51,7 +50,7 @@ pub fn barrier(alloc: Global, cursor: &mut Cursor<'_>, below: u32) -> Result<Nam
 }
 
 /// Reads what is behind `print`.
-pub fn print(alloc: Global, cursor: &mut Cursor<'_>, below: u32) -> Result<Stmt, Refusal>
+pub fn print(alloc: Global, cursor: &mut Cursor<'_>, below: u32) -> Result<Statement, Refusal>
     requires { below < 2 ^ 28 }
     ensures { Gives view_statement (reader.print below cursor.old) result cursor.new }
 {
@@ -59,17 +58,17 @@ pub fn print(alloc: Global, cursor: &mut Cursor<'_>, below: u32) -> Result<Stmt,
     let parts = parts(alloc, cursor, below)?;
     cursor.expect(Sign::ParenClose)?;
     cursor.expect(Sign::Semicolon)?;
-    Ok(Stmt::Print(parts))
+    Ok(Statement::Print(parts))
 }
 
 /// Reads variables, and a semicolon.
-pub fn declaration(alloc: Global, cursor: &mut Cursor<'_>, below: u32) -> Result<Stmt, Refusal>
+pub fn declaration(alloc: Global, cursor: &mut Cursor<'_>, below: u32) -> Result<Statement, Refusal>
     requires { below < 2 ^ 28 }
     ensures { Gives view_statement (reader.declaration below cursor.old) result cursor.new }
 {
     let all = variables(alloc, cursor, below)?;
     cursor.expect(Sign::Semicolon)?;
-    Ok(Stmt::Variables(all))
+    Ok(Statement::Variables(all))
 }
 
 /// Reads an expression, and a semicolon.
@@ -77,13 +76,14 @@ pub fn expression_statement(
     alloc: Global,
     cursor: &mut Cursor<'_>,
     below: u32,
-) -> Result<Stmt, Refusal>
+) -> Result<Statement, Refusal>
     requires { below < 2 ^ 28 }
-    ensures { Gives view_statement (reader.expression_statement below cursor.old) result cursor.new }
+    ensures { Gives view_statement (reader.expression_statement below cursor.old)
+        result cursor.new }
 {
     let value = expression(alloc, cursor, below)?.tree;
     cursor.expect(Sign::Semicolon)?;
-    Ok(Stmt::Expression(value))
+    Ok(Statement::Expression(value))
 }
 
 /// Reads what is behind a `return` of this line.
@@ -92,11 +92,11 @@ pub fn return_at(
     cursor: &mut Cursor<'_>,
     below: u32,
     line: u32,
-) -> Result<Stmt, Refusal>
+) -> Result<Statement, Refusal>
     requires { below < 2 ^ 28 }
     ensures { Gives view_statement (reader.return_at below line cursor.old) result cursor.new }
 {
     let value = unless_sign(alloc, cursor, below, Sign::Semicolon)?;
     cursor.expect(Sign::Semicolon)?;
-    Ok(Stmt::Return { line, value })
+    Ok(Statement::Return { line, value })
 }

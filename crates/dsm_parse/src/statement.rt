@@ -2,15 +2,13 @@
 
 ghost use Rattle.std.specs.Prelude.{◌≡◌, ◌<◌, ◌^◌};
 ghost use Rattle.dsm_syntax.specs.Views.{view_statement, view_statements};
-ghost use Rattle.dsm_cursor.specs.Gives.{Gives};
-ghost use Rattle.dsm_cursor.specs.Reading.{ended_by, tail};
-ghost use Rattle.dsm_parse.specs.Statements as reader;
+ghost use Rattle.dsm_syntax.specs.Gives.{Gives};
+ghost use Rattle.dsm_syntax.specs.Reading.{ended_by, tail};
+ghost use Rattle.dsm_laws_grammar.specs.Statements as reader;
 
 use crate::head::{for_head, test};
-use crate::kind::StatementKind;
 use crate::simple::{barrier, declaration, deeper, expression_statement, lock, print, return_at};
-use dsm_cursor::{Cursor, Refusal};
-use dsm_syntax::{Sign, Stmt, Word};
+use dsm_syntax::{Cursor, Refusal, Sign, Statement, StatementKind, Word};
 use std::alloc::Global;
 
 /// Whether a token comes next that doesn't close the block.
@@ -22,9 +20,10 @@ fn goes_on(cursor: &Cursor<'_>) -> bool
 
 /// Reads statements of at most this height, and the closing brace.
 #[cycle(statement)]
-fn statements(alloc: Global, cursor: &mut Cursor<'_>, most: u32) -> Result<Vec<Stmt>, Refusal>
+fn statements(alloc: Global, cursor: &mut Cursor<'_>, most: u32) -> Result<Vec<Statement>, Refusal>
     requires { most < 2 ^ 28 }
-    ensures { Gives (λ all. view_statements all.items) (reader.statements (reader.statement most) cursor.old) result cursor.new }
+    ensures { Gives (λ all. view_statements all.items)
+        (reader.statements (reader.statement most) cursor.old) result cursor.new }
 {
     let mut all = Vec::new(alloc);
     while goes_on(cursor) {
@@ -36,48 +35,55 @@ fn statements(alloc: Global, cursor: &mut Cursor<'_>, most: u32) -> Result<Vec<S
 
 /// Reads an `if`, with at most so many levels below it.
 #[cycle(statement)]
-fn branches(alloc: Global, cursor: &mut Cursor<'_>, below: u32) -> Result<Stmt, Refusal>
+fn branches(alloc: Global, cursor: &mut Cursor<'_>, below: u32) -> Result<Statement, Refusal>
     requires { below < 2 ^ 28 }
-    ensures { Gives view_statement (reader.statement_by below (reader.statement below) StatementKind.If cursor.old) result cursor.new }
+    ensures { Gives view_statement
+        (reader.statement_by below (reader.statement below) StatementKind.If cursor.old)
+        result cursor.new }
 {
     deeper(cursor, below)?;
     let test = test(alloc, cursor, below)?;
     let body = Box::new(alloc, statement(alloc, cursor, below)?)?;
     if !cursor.is_word(Word::Else) {
-        return Ok(Stmt::If(test, body));
+        return Ok(Statement::If(test, body));
     }
     cursor.skip();
     let other = Box::new(alloc, statement(alloc, cursor, below)?)?;
-    Ok(Stmt::IfElse(test, body, other))
+    Ok(Statement::IfElse(test, body, other))
 }
 
 /// Reads a `while`, with at most so many levels below it.
 #[cycle(statement)]
-fn while_loop(alloc: Global, cursor: &mut Cursor<'_>, below: u32) -> Result<Stmt, Refusal>
+fn while_loop(alloc: Global, cursor: &mut Cursor<'_>, below: u32) -> Result<Statement, Refusal>
     requires { below < 2 ^ 28 }
-    ensures { Gives view_statement (reader.statement_by below (reader.statement below) StatementKind.While cursor.old) result cursor.new }
+    ensures { Gives view_statement
+        (reader.statement_by below (reader.statement below) StatementKind.While cursor.old)
+        result cursor.new }
 {
     deeper(cursor, below)?;
     let test = test(alloc, cursor, below)?;
     let body = Box::new(alloc, statement(alloc, cursor, below)?)?;
-    Ok(Stmt::While(test, body))
+    Ok(Statement::While(test, body))
 }
 
 /// Reads a `for`, with at most so many levels below it.
 #[cycle(statement)]
-fn for_loop(alloc: Global, cursor: &mut Cursor<'_>, below: u32) -> Result<Stmt, Refusal>
+fn for_loop(alloc: Global, cursor: &mut Cursor<'_>, below: u32) -> Result<Statement, Refusal>
     requires { below < 2 ^ 28 }
-    ensures { Gives view_statement (reader.statement_by below (reader.statement below) StatementKind.For cursor.old) result cursor.new }
+    ensures { Gives view_statement
+        (reader.statement_by below (reader.statement below) StatementKind.For cursor.old)
+        result cursor.new }
 {
     deeper(cursor, below)?;
     let head = for_head(alloc, cursor, below)?;
     let body = Box::new(alloc, statement(alloc, cursor, below)?)?;
-    Ok(Stmt::For(head.start, head.test, head.step, body))
+    Ok(Statement::For(head.start, head.test, head.step, body))
 }
 
 /// Reads a statement of one word, a `break` or a `continue`.
-fn jump(cursor: &mut Cursor<'_>, statement: Stmt) -> Result<Stmt, Refusal>
-    ensures { Gives view_statement (ended_by Sign.Semicolon (view_statement statement) (tail cursor.old)) result cursor.new }
+fn jump(cursor: &mut Cursor<'_>, statement: Statement) -> Result<Statement, Refusal>
+    ensures { Gives view_statement
+        (ended_by Sign.Semicolon (view_statement statement) (tail cursor.old)) result cursor.new }
 {
     cursor.skip();
     cursor.expect(Sign::Semicolon)?;
@@ -91,33 +97,34 @@ fn statement_by(
     cursor: &mut Cursor<'_>,
     below: u32,
     kind: StatementKind,
-) -> Result<Stmt, Refusal>
+) -> Result<Statement, Refusal>
     requires { below < 2 ^ 28 }
-    ensures { Gives view_statement (reader.statement_by below (reader.statement below) kind cursor.old) result cursor.new }
+    ensures { Gives view_statement
+        (reader.statement_by below (reader.statement below) kind cursor.old) result cursor.new }
 {
     match kind {
         StatementKind::Block => {
             cursor.skip();
-            Ok(Stmt::Block(statements(alloc, cursor, below)?))
+            Ok(Statement::Block(statements(alloc, cursor, below)?))
         }
         StatementKind::Empty => {
             cursor.skip();
-            Ok(Stmt::Empty)
+            Ok(Statement::Empty)
         }
         StatementKind::Variables => declaration(alloc, cursor, below),
         StatementKind::If => branches(alloc, cursor, below),
         StatementKind::While => while_loop(alloc, cursor, below),
         StatementKind::For => for_loop(alloc, cursor, below),
-        StatementKind::Break { line } => jump(cursor, Stmt::Break { line }),
-        StatementKind::Continue { line } => jump(cursor, Stmt::Continue { line }),
+        StatementKind::Break { line } => jump(cursor, Statement::Break { line }),
+        StatementKind::Continue { line } => jump(cursor, Statement::Continue { line }),
         StatementKind::Return { line } => {
             cursor.skip();
             return_at(alloc, cursor, below, line)
         }
-        StatementKind::Acquire => Ok(Stmt::Acquire(lock(alloc, cursor, below)?)),
-        StatementKind::AcquireShared => Ok(Stmt::AcquireShared(lock(alloc, cursor, below)?)),
-        StatementKind::Release => Ok(Stmt::Release(lock(alloc, cursor, below)?)),
-        StatementKind::Barrier => Ok(Stmt::Barrier(barrier(alloc, cursor, below)?)),
+        StatementKind::Acquire => Ok(Statement::Acquire(lock(alloc, cursor, below)?)),
+        StatementKind::AcquireShared => Ok(Statement::AcquireShared(lock(alloc, cursor, below)?)),
+        StatementKind::Release => Ok(Statement::Release(lock(alloc, cursor, below)?)),
+        StatementKind::Barrier => Ok(Statement::Barrier(barrier(alloc, cursor, below)?)),
         StatementKind::Print => {
             cursor.skip();
             print(alloc, cursor, below)
@@ -131,7 +138,7 @@ fn no_statement(
     alloc: Global,
     cursor: &mut Cursor<'_>,
     kind: StatementKind,
-) -> Result<Stmt, Refusal>
+) -> Result<Statement, Refusal>
     ensures { Gives view_statement (reader.no_statement kind cursor.old) result cursor.new }
 {
     match kind {
@@ -142,7 +149,7 @@ fn no_statement(
 
 /// Reads a statement of at most this height.
 #[cycle(statement)]
-fn statement(alloc: Global, cursor: &mut Cursor<'_>, most: u32) -> Result<Stmt, Refusal>
+fn statement(alloc: Global, cursor: &mut Cursor<'_>, most: u32) -> Result<Statement, Refusal>
     requires { most < 2 ^ 28 }
     ensures { Gives view_statement (reader.statement most cursor.old) result cursor.new }
 {
@@ -155,11 +162,12 @@ fn statement(alloc: Global, cursor: &mut Cursor<'_>, most: u32) -> Result<Stmt, 
 
 /// Reads the body of a function, of at most this height.
 ///
-/// `Unexpected` comes for a next token with which no body goes on, and `TooHigh` for one with which only higher ones do;
-/// `Memory` comes for want of memory.
-pub fn body(alloc: Global, cursor: &mut Cursor<'_>, most: u32) -> Result<Vec<Stmt>, Refusal>
+/// `Unexpected` comes for a next token with which no body goes on, and `TooHigh` for one with which
+/// only higher ones do; `Memory` comes where memory runs out.
+pub fn body(alloc: Global, cursor: &mut Cursor<'_>, most: u32) -> Result<Vec<Statement>, Refusal>
     requires { most < 2 ^ 28 }
-    ensures { Gives (λ all. view_statements all.items) (reader.body most cursor.old) result cursor.new }
+    ensures { Gives (λ all. view_statements all.items) (reader.body most cursor.old)
+        result cursor.new }
 {
     if most == 0 && cursor.is_sign(Sign::BraceOpen) {
         return Err(Refusal::TooHigh);

@@ -2,13 +2,12 @@
 
 ghost use Rattle.std.specs.Prelude.{◌≡◌, ◌≤◌, ◌<◌, ◌^◌, map};
 ghost use Rattle.dsm_syntax.specs.Views.{option_view, view_initial, view_variable};
-ghost use Rattle.dsm_cursor.specs.Gives.{Gives};
-ghost use Rattle.dsm_cursor.specs.Reading.{look, list_of};
-ghost use Rattle.dsm_parse.specs.Statements as reader;
+ghost use Rattle.dsm_syntax.specs.Gives.{Gives};
+ghost use Rattle.dsm_syntax.specs.Reading.{look, list_of};
+ghost use Rattle.dsm_laws_grammar.specs.Statements as reader;
 
 use crate::expression::expression;
-use dsm_cursor::{Cursor, Refusal};
-use dsm_syntax::{Initial, Sign, Variable, Word};
+use dsm_syntax::{Cursor, Initial, Refusal, Sign, Variable, Word};
 use std::alloc::Global;
 
 /// The line of a `=` that comes next.
@@ -48,7 +47,8 @@ fn variable(alloc: Global, cursor: &mut Cursor<'_>, most: u32) -> Result<Variabl
 fn list(alloc: Global, cursor: &mut Cursor<'_>, most: u32) -> Result<Vec<Variable>, Refusal>
     requires some { 1 ≤ most }
     requires fits { most < 2 ^ 28 }
-    ensures { Gives (λ all. map view_variable all.items) (list_of (reader.variable most) cursor.old) result cursor.new }
+    ensures { Gives (λ all. map view_variable all.items)
+        (list_of (reader.variable most) cursor.old) result cursor.new }
 {
     let mut all = Vec::new(alloc);
     all.push(variable(alloc, cursor, most)?)?;
@@ -66,7 +66,8 @@ pub fn variables(
     most: u32,
 ) -> Result<Vec<Variable>, Refusal>
     requires { most < 2 ^ 28 }
-    ensures { Gives (λ all. map view_variable all.items) (reader.variables most cursor.old) result cursor.new }
+    ensures { Gives (λ all. map view_variable all.items) (reader.variables most cursor.old)
+        result cursor.new }
 {
     if !cursor.is_word(Word::Int) {
         return Err(Refusal::Unexpected);

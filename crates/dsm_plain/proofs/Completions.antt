@@ -1,98 +1,114 @@
 -- What a turn with a label leaves of the machine.
 use Rattle.std.proofs.Common.{◌≡◌, ℕ, ℤ, pos, ◌<◌, List, sym, ap, ◌∙◌, subst, map, length, get_or, set}
 use Rattle.dsm_base.specs.declared.label.Label.{Label}
-use Rattle.dsm_base.specs.Family.{update}
+use Rattle.dsm_base.specs.declared.label.Want.{Want}
+use Rattle.dsm_base.specs.declared.rights.Rights.{Rights}
+use Rattle.dsm_base.specs.Family.{update, family_of}
 use Rattle.dsm_base.specs.Plain.{PlainState, plain_after, held_after, arrived_after, crossed_after, memory_after, versions_after}
+use Rattle.dsm_base.specs.Rights.{held_of, arrived_of, crossed_of, HasSizes}
+use Rattle.dsm_base.specs.Threads.{AnswersTo}
+use Rattle.dsm_base.proofs.Families.{family_of_set, update_under}
 use Rattle.dsm_check.specs.CheckedViews.{program_of}
-use Rattle.dsm_check.specs.Resolved as r
-use Rattle.dsm_check.specs.Semantics.{ready, completed}
-use Rattle.dsm_check.specs.SemanticsItems.{State}
-use Rattle.dsm_check.specs.SemanticsWithin.{Extent, extent_of, AreFunctionsWithin, IsStateWithin}
-use Rattle.dsm_check.proofs.SemanticsNames.{want_within, completed_within, ready_within}
+use Rattle.dsm_check.specs.Programs.{Program}
+use Rattle.dsm_semantics.specs.Semantics.{program_semantics}
+use Rattle.dsm_semantics.specs.States.{State}
+use Rattle.dsm_semantics.specs.Within.{Extent, extent_in, NamesWithin, IsStateWithin}
+use Rattle.dsm_semantics.specs.Programs.{first_states}
+use Rattle.dsm_semantics.proofs.Accepted.{functions_within}
+use Rattle.dsm_semantics.proofs.Within.{want_within}
 use Rattle.dsm_interpreter.specs.declared.thread.PlainThread.{PlainThread}
-use Rattle.dsm_interpreter.specs.Sound.{IsSoundState}
-use Rattle.dsm_interpreter.specs.Threads.{state_of}
+use Rattle.dsm_interpreter.specs.Threads as threads
+use Rattle.dsm_interpreter.specs.Threads.{state_of, told_by}
 use Rattle.dsm_plain.specs.declared.machine.Plain.{Plain}
-use Rattle.dsm_plain.specs.declared.standing.Standing.{Standing}
-use Rattle.dsm_plain.specs.Labels.{Follows}
-use Rattle.dsm_plain.specs.Machine.{HasSizes, IsWhole, want_at, machine_of, semantics_of, family_of, first_states, standing_at, no_standing, held_of, arrived_of, crossed_of}
-use Rattle.dsm_plain.proofs.Extents.{narrow_setup, functions_set_up, IsLabelWithin, label_within}
-use Rattle.dsm_plain.proofs.Families.{family_of_set, update_under}
-use Rattle.dsm_plain.proofs.States.{found_has, state_found, states_put, states_have}
+use Rattle.dsm_plain.specs.Machine.{IsThreadOf, IsWhole, want_at, machine_of, semantics_of, rights_at, no_rights}
+use Rattle.dsm_plain.proofs.Extents.{IsLabelWithin, label_within}
+use Rattle.dsm_plain.proofs.States.{found_has, found_at, state_found, states_put, states_have}
 
-module _ (plain : Plain) (whole : IsWhole plain) (p : ℕ) (is_processor : p < plain.setup.procs) (label : Label) (follows : Follows (want_at plain p) label) (at : ℕ) (same : at ≡ p) where
-  abbrev functions : List r.Function
-  functions = (program_of plain.checked.now).functions
+module _ (plain : Plain) (whole : IsWhole plain) (p : ℕ) (is_processor : p < plain.setup.procs) where
+  abbrev program : Program
+  program = program_of plain.checked.now
 
   abbrev extent : Extent
-  extent = extent_of plain.setup
+  extent = extent_in program
 
   abbrev first : ℕ → State
-  first = first_states (program_of plain.checked.now) plain.setup.procs
-
-  all : AreFunctionsWithin extent functions
-  all = functions_set_up plain.checked.now plain.setup.procs plain.setup whole.is_setup
+  first = first_states program plain.setup.procs
 
   threads_have : p < length plain.threads.items
   threads_have = subst (λ n. p < n) (sym whole.threads) is_processor
 
-  pub standings_have : p < length plain.standings.items
-  standings_have = subst (λ n. p < n) (sym whole.standings) is_processor
+  rights_have : p < length plain.rights.items
+  rights_have = subst (λ n. p < n) (sym whole.rights) is_processor
 
-  pub sizes_are : (standing : Standing) → standing ≡ get_or plain.standings.items at standing → HasSizes plain.setup.locks plain.setup.bars standing
-  sizes_are standing found = found_has (HasSizes plain.setup.locks plain.setup.bars) plain.standings.items at p standing found same standings_have whole.sizes
+  -- what is wanted names only what there is
+  pub want_is_within : NamesWithin extent (want_at plain p)
+  want_is_within =
+      want_within extent program.functions (functions_within plain.checked.now) ((machine_of plain).threads p)
+      (states_have (IsStateWithin extent) (first p) plain.threads.items p threads_have (λ k d below. (whole.ready k d below).ready.state))
 
-  pub label_is_within : IsLabelWithin extent label
-  label_is_within =
-      label_within extent (want_at plain p) label
-      (want_within extent functions all ((machine_of plain).threads p) (states_have (IsStateWithin extent) (first p) plain.threads.items p threads_have whole.within)) follows
+  pub label_is_within : (label : Label) → AnswersTo (want_at plain p) label → IsLabelWithin extent label
+  label_is_within label answers = label_within extent (want_at plain p) label want_is_within answers
 
-  module _ (thread : PlainThread) (found : thread ≡ get_or plain.threads.items at thread) where
-    state_is : (machine_of plain).threads p ≡ state_of thread
-    state_is = state_found first plain.threads.items at p thread found same threads_have
+  module _ (at : ℕ) (same : at ≡ p) where
+    -- the rights that were found
+    module _ (rights : Rights) (found : rights ≡ get_or plain.rights.items at rights) where
+      pub sizes_are : HasSizes plain.setup.locks plain.setup.bars rights
+      sizes_are = found_has (HasSizes plain.setup.locks plain.setup.bars) plain.rights.items at p rights found same rights_have whole.sizes
 
-    state_within : IsStateWithin extent (state_of thread)
-    state_within = found_has (λ thread. IsStateWithin extent (state_of thread)) plain.threads.items at p thread found same threads_have whole.within
+      pub rights_are : rights_at plain.rights.items p ≡ rights
+      rights_are = found_at (λ q. no_rights) plain.rights.items at p rights found same rights_have
 
-    pub after_within : IsStateWithin extent (completed functions (state_of thread) label)
-    after_within = completed_within extent functions all (state_of thread) label state_within
+    -- the thread that was found
+    module _ (thread : PlainThread) (found : thread ≡ get_or plain.threads.items at thread) where
+      pub is_thread : IsThreadOf program thread
+      is_thread = found_has (IsThreadOf program) plain.threads.items at p thread found same threads_have whole.ready
 
-    pub sound_after : IsSoundState (completed functions (state_of thread) label)
-    sound_after = (extent, narrow_setup plain.setup, after_within)
+      state_is : (machine_of plain).threads p ≡ state_of thread
+      state_is = state_found first plain.threads.items at p thread found same threads_have
 
-    pub ready_after_within : IsStateWithin extent (ready functions (completed functions (state_of thread) label))
-    ready_after_within = ready_within extent functions all (completed functions (state_of thread) label) after_within
+      pub told_is : told_by thread ≡ want_at plain p
+      told_is =
+          is_thread.ready.told
+          ∙ ap (λ functions. (program_semantics functions).want (state_of thread)) is_thread.functions
+          ∙ ap (λ s. (semantics_of plain).want s) (sym state_is)
 
-    module _ (next : PlainThread) (standing : Standing) (memory : List ℤ) (versions : List ℕ) where
-      abbrev left : PlainState State
-      left = record {
-        threads = family_of first (map state_of (set plain.threads.items at next));
-        memory = family_of (λ cell. pos 0) memory;
-        versions = family_of (λ lock. 0) versions;
-        held = λ q. held_of (standing_at (set plain.standings.items at standing) q);
-        arrived = λ q. arrived_of (standing_at (set plain.standings.items at standing) q);
-        crossed = λ q. crossed_of (standing_at (set plain.standings.items at standing) q);
-      }
+      pub text_is : (threads.semantics_of thread).text (state_of thread) ≡ (semantics_of plain).text ((machine_of plain).threads p)
+      text_is =
+          ap (λ functions. (program_semantics functions).text (state_of thread)) is_thread.functions
+          ∙ ap (λ s. (semantics_of plain).text s) (sym state_is)
 
-      put_under : {B : Type 0} (f : Standing → B) (b : B) → f standing ≡ b
-          → (λ q. f (standing_at (set plain.standings.items at standing) q)) ≡ update (λ q. f (standing_at plain.standings.items q)) p b
-      put_under f b is =
-          ap (λ family q. f (family q)) (family_of_set (λ q. no_standing) plain.standings.items at standing (subst (λ n. n < length plain.standings.items) (sym same) standings_have))
-          ∙ update_under f (standing_at plain.standings.items) at standing
-          ∙ ap (λ n. update (λ q. f (standing_at plain.standings.items q)) n (f standing)) same
-          ∙ ap (update (λ q. f (standing_at plain.standings.items q)) p) is
+      module _ (label : Label) (next : PlainThread) (rights : Rights) (memory : List ℤ) (versions : List ℕ) where
+        abbrev left : PlainState State
+        left = record {
+          threads = family_of first (map state_of (set plain.threads.items at next));
+          memory = family_of (λ cell. pos 0) memory;
+          versions = family_of (λ lock. 0) versions;
+          held = λ q. held_of (rights_at (set plain.rights.items at rights) q);
+          arrived = λ q. arrived_of (rights_at (set plain.rights.items at rights) q);
+          crossed = λ q. crossed_of (rights_at (set plain.rights.items at rights) q);
+        }
 
-      pub machine_after : state_of next ≡ ready functions (completed functions (state_of thread) label)
-          → held_of standing ≡ held_after (held_of (standing_at plain.standings.items p)) label
-          → arrived_of standing ≡ arrived_after (arrived_of (standing_at plain.standings.items p)) label
-          → crossed_of standing ≡ crossed_after (crossed_of (standing_at plain.standings.items p)) label
-          → family_of (λ cell. pos 0) memory ≡ memory_after (machine_of plain).memory label
-          → family_of (λ lock. 0) versions ≡ versions_after (machine_of plain).versions (held_of (standing_at plain.standings.items p)) label
-          → left ≡ plain_after (semantics_of plain) (machine_of plain) p label
-      machine_after state held arrived crossed cells locks =
-          let threads = states_put first plain.threads.items at p next (ready functions (completed functions ((machine_of plain).threads p) label)) same threads_have
-          (state ∙ ap (λ s. ready functions (completed functions s label)) (sym state_is)) in
-          let holds = put_under held_of (held_after (held_of (standing_at plain.standings.items p)) label) held in
-          let arrivals = put_under arrived_of (arrived_after (arrived_of (standing_at plain.standings.items p)) label) arrived in
-          let crossings = put_under crossed_of (crossed_after (crossed_of (standing_at plain.standings.items p)) label) crossed in
-          λ i. record { threads = threads i; memory = cells i; versions = locks i; held = holds i; arrived = arrivals i; crossed = crossings i }
+        put_under : {B : Type 0} (f : Rights → B) (b : B) → f rights ≡ b
+            → (λ q. f (rights_at (set plain.rights.items at rights) q)) ≡ update (λ q. f (rights_at plain.rights.items q)) p b
+        put_under f b is =
+            ap (λ family q. f (family q)) (family_of_set (λ q. no_rights) plain.rights.items at rights (subst (λ n. n < length plain.rights.items) (sym same) rights_have))
+            ∙ update_under f (rights_at plain.rights.items) at rights
+            ∙ ap (λ n. update (λ q. f (rights_at plain.rights.items q)) n (f rights)) same
+            ∙ ap (update (λ q. f (rights_at plain.rights.items q)) p) is
+
+        pub machine_after : state_of next ≡ (threads.semantics_of thread).after (state_of thread) label
+            → held_of rights ≡ held_after (held_of (rights_at plain.rights.items p)) label
+            → arrived_of rights ≡ arrived_after (arrived_of (rights_at plain.rights.items p)) label
+            → crossed_of rights ≡ crossed_after (crossed_of (rights_at plain.rights.items p)) label
+            → family_of (λ cell. pos 0) memory ≡ memory_after (machine_of plain).memory label
+            → family_of (λ lock. 0) versions ≡ versions_after (machine_of plain).versions (held_of (rights_at plain.rights.items p)) label
+            → left ≡ plain_after (semantics_of plain) (machine_of plain) p label
+        machine_after state held arrived crossed cells locks =
+            let threads = states_put first plain.threads.items at p next ((semantics_of plain).after ((machine_of plain).threads p) label) same threads_have
+            (state
+            ∙ ap (λ functions. (program_semantics functions).after (state_of thread) label) is_thread.functions
+            ∙ ap (λ s. (semantics_of plain).after s label) (sym state_is)) in
+            let holds = put_under held_of (held_after (held_of (rights_at plain.rights.items p)) label) held in
+            let arrivals = put_under arrived_of (arrived_after (arrived_of (rights_at plain.rights.items p)) label) arrived in
+            let crossings = put_under crossed_of (crossed_after (crossed_of (rights_at plain.rights.items p)) label) crossed in
+            λ i. record { threads = threads i; memory = cells i; versions = locks i; held = holds i; arrived = arrivals i; crossed = crossings i }

@@ -5,6 +5,6 @@ pub on_ok : {A E : Type 0} {P Q : Type 0} (result : Result A E) → OnOk result 
 on_ok (Ok a) p f = f p
 on_ok (Err e) p f = tt
 
-pub if_ok : {A E : Type 0} {P Q : A → Type 0} (result : Result A E) → IfOk result P → ((a : A) → P a → Q a) → IfOk result Q
-if_ok (Ok a) p f = f a p
-if_ok (Err e) p f = tt
+pub if_both : {A E : Type 0} {P Q R : A → Type 0} (result : Result A E) → IfOk result P → IfOk result Q → ((a : A) → P a → Q a → R a) → IfOk result R
+if_both (Ok a) p q f = f a p q
+if_both (Err e) p q f = tt

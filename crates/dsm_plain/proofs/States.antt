@@ -1,26 +1,13 @@
 -- The threads' states in a machine, by their numbers.
-use Rattle.std.proofs.Common.{◌≡◌, ℕ, zero, suc, ◌<◌, List, [], ◌∷◌, sym, ap, ◌∙◌, subst, map, length, get_or, set, get_or-set_same, arith}
+use Rattle.std.proofs.Common.{◌≡◌, ℕ, zero, suc, ◌<◌, List, [], ◌∷◌, sym, ap, ◌∙◌, subst, map, length, get_or, set, arith}
 use Rattle.std.specs.List.{All}
-use Rattle.std.proofs.lemmas.List.{map-set, length-map, length-set, get_or-map, get_or_default}
+use Rattle.std.proofs.lemmas.List.{map-set, length-map, get_or-map, get_or_default}
 use Rattle.std.proofs.lemmas.List.Elements.{All-get_or}
-use Rattle.std.proofs.Math.Seq.{map-set_same}
-use Rattle.dsm_base.specs.Family.{update}
-use Rattle.dsm_check.specs.Resolved as r
-use Rattle.dsm_check.specs.Semantics.{step, ready}
-use Rattle.dsm_check.specs.SemanticsItems.{State}
-use Rattle.dsm_check.proofs.StepsSettle.{settled_stays, settled_reaches}
-use Rattle.dsm_check.proofs.SemanticsFalls.{weight_at, step_falls}
+use Rattle.dsm_base.specs.Family.{update, family_of}
+use Rattle.dsm_base.proofs.Families.{family_of_set}
+use Rattle.dsm_semantics.specs.States.{State}
 use Rattle.dsm_interpreter.specs.declared.thread.PlainThread.{PlainThread}
 use Rattle.dsm_interpreter.specs.Threads.{state_of}
-use Rattle.dsm_plain.specs.Machine.{family_of}
-use Rattle.dsm_plain.proofs.Families.{family_of_set}
-
--- a state that is settled in is settled in itself
-pub ready_is : (functions : List r.Function) (s t : State) → t ≡ ready functions s → t ≡ ready functions t
-ready_is functions s t is =
-    let again : ready functions (ready functions s) ≡ ready functions s =
-    settled_stays (step functions) weight_at (step_falls functions) (ready functions s) (settled_reaches (step functions) weight_at (step_falls functions) s) in
-    is ∙ sym again ∙ ap (ready functions) (sym is)
 
 -- what holds of all holds of the one that was found
 pub found_has : {A : Type 0} (P : A → Type 0) (items : List A) (i p : ℕ) (item : A) → item ≡ get_or items i item → i ≡ p → p < length items → All P items → P item
@@ -37,21 +24,6 @@ pub state_found : (first : ℕ → State) (threads : List PlainThread) (i p : �
     → family_of first (map state_of threads) p ≡ state_of thread
 state_found first threads i p thread found same within =
     get_or-map state_of threads p thread (first p) within ∙ ap (λ n. state_of (get_or threads n thread)) (sym same) ∙ ap state_of (sym found)
-
--- of a thread that was put in its place
-pub state_put : (first : ℕ → State) (threads : List PlainThread) (i p : ℕ) (thread : PlainThread) → i ≡ p → p < length threads
-    → family_of first (map state_of (set threads i thread)) p ≡ state_of thread
-state_put first threads i p thread same within =
-    let inside : i < length threads = subst (λ n. n < length threads) (sym same) within in
-    let inside_put : p < length (set threads i thread) = subst (λ n. p < n) (sym (length-set threads i thread)) within in
-    get_or-map state_of (set threads i thread) p thread (first p) inside_put
-    ∙ ap (λ n. state_of (get_or (set threads i thread) n thread)) (sym same)
-    ∙ ap state_of (get_or-set_same threads i thread thread inside)
-
--- one that is in the same state changes nothing
-pub states_same : (threads : List PlainThread) (i : ℕ) (old new : PlainThread) → old ≡ get_or threads i old → state_of new ≡ state_of old
-    → map state_of (set threads i new) ≡ map state_of threads
-states_same threads i old new found same = map-set_same state_of threads i new old (same ∙ ap state_of found)
 
 -- one state replaced is one member replaced
 pub states_put : (first : ℕ → State) (threads : List PlainThread) (i p : ℕ) (thread : PlainThread) (state : State) → i ≡ p → p < length threads → state_of thread ≡ state

@@ -8,9 +8,12 @@ use Rattle.dsm_base.specs.declared.label.Want.{Want}
 use Rattle.dsm_base.specs.declared.setup.Setup.{Setup}
 use Rattle.dsm_base.specs.Family.{all_below}
 use Rattle.dsm_base.specs.Plain.{PlainState, may_stand_beside, can_take, can_cross, label_of, seen_by, plain_turn_of}
-use Rattle.dsm_plain.specs.declared.waiting.Holder.{Holder}
+use Rattle.dsm_base.specs.declared.holders.Holder.{Holder}
 use Rattle.dsm_plain.specs.Waiting.{as_blocker, blockers, late, IsBlocked, IsAhead}
-use Rattle.dsm_plain.proofs.Lists.{append_none}
+
+append_none : {A : Type 0} (xs ys : List A) → xs ++ ys ≡ [] → (xs ≡ []) × (ys ≡ [])
+append_none [] ys h = (refl, h)
+append_none (x ∷ xs) ys h = cc
 
 module _ (held : ℕ → ℕ → Option Mode) (p lock : ℕ) (mode : Mode) where
   abbrev may_beside : ℕ → Bool

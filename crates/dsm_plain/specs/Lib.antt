@@ -1,3 +1,2 @@
-pub mod Labels
-pub mod Waiting
 pub mod Machine
+pub mod Waiting

@@ -4,16 +4,18 @@ use Rattle.dsm_base.specs.declared.names.Proc.{Proc}
 use Rattle.dsm_base.specs.declared.names.Mode.{Mode}
 use Rattle.dsm_base.specs.declared.label.Want.{Want}
 use Rattle.dsm_base.specs.declared.setup.Setup.{Setup}
-use Rattle.dsm_base.specs.Plain.{PlainState, may_stand_beside, plain_turn, plain_after}
+use Rattle.dsm_base.specs.Holders.{are_compatible}
+use Rattle.dsm_base.specs.Plain.{PlainState, plain_turn, plain_after}
 use Rattle.dsm_base.specs.Threads.{Semantics}
-use Rattle.dsm_plain.specs.declared.waiting.Holder.{Holder}
+use Rattle.dsm_base.specs.declared.holders.Holder.{Holder}
 use Rattle.dsm_plain.specs.declared.waiting.Picked.{Picked}
-use Rattle.dsm_plain.specs.Labels.{PrintsLine}
+use Rattle.dsm_base.specs.Labels.{PrintsLine}
 
 -- q, who holds a lock so, where p may not take it in this mode beside q
 abbrev pub as_blocker : ℕ → Mode → ℕ → Option Mode → List Holder
 as_blocker p mode q None = []
-as_blocker p mode q (Some held) = if (q == p) || may_stand_beside mode (Some held) then [] else record { proc = record { 0 = q }; mode = held } ∷ []
+as_blocker p mode q (Some held) =
+    if (q == p) || are_compatible mode held then [] else record { proc = record { 0 = q }; mode = held } ∷ []
 
 -- the holders of a lock among the first processors beside whom p may not take it in this mode
 abbrev pub blockers : ℕ → (ℕ → ℕ → Option Mode) → ℕ → ℕ → Mode → List Holder

@@ -1,13 +1,11 @@
 //! The machine of one memory, over programs with every name resolved.
 #![tactic(auto)]
 
-mod access;
+mod finished;
 mod machine;
-mod standing;
 mod start;
 mod turn;
 mod waiting;
 
 pub use machine::Plain;
-pub use standing::Standing;
-pub use waiting::{Holder, Holders, Picked, Procs};
+pub use waiting::Picked;

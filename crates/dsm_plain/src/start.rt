@@ -1,14 +1,15 @@
 //! The machine before the first turn.
 
-ghost use Rattle.std.specs.Prelude.{◌≡◌, ℕ, pos, map, length, IfOk};
+ghost use Rattle.std.specs.Prelude.{◌≡◌, ℕ, pos, map, length, None, IfOk};
 ghost use Rattle.std.specs.List.{All};
+ghost use Rattle.dsm_base.specs.Family.{family_of};
+ghost use Rattle.dsm_base.specs.Rights.{held_of, arrived_of, crossed_of, HasSizes};
 ghost use Rattle.dsm_check.specs.CheckedViews.{program_of};
-ghost use Rattle.dsm_check.specs.SemanticsWithin.{IsStateWithin};
 ghost use Rattle.dsm_interpreter.specs.Threads.{state_of};
-ghost use Rattle.dsm_plain.specs.Machine.{family_of, first_states, no_standing, standing_at, extent_in, IsReady, HasSizes, held_of, arrived_of, crossed_of};
+ghost use Rattle.dsm_semantics.specs.Programs.{first_states};
+ghost use Rattle.dsm_plain.specs.Machine.{rights_at, IsThreadOf};
 
-use crate::standing::{Numbers, Standing};
-use dsm_base::{MemFault, Proc};
+use dsm_base::{MemFault, Numbers, Proc, Rights};
 use dsm_check::Checked;
 use dsm_interpreter::PlainThread;
 use sqlite_items::Items;
@@ -21,20 +22,18 @@ fn start_thread<'a>(
     me: Proc,
     procs: u8,
 ) -> Result<PlainThread<'a>, MemFault>
-    ensures state { IfOk result (λ thread. state_of thread ≡ first_states (program_of checked.now) procs me.0) }
-    ensures ready { IfOk result (IsReady (program_of checked.now).functions) }
-    ensures within { IfOk result (λ thread. IsStateWithin (extent_in (program_of checked.now)) (state_of thread)) }
+    ensures state { IfOk result (λ thread.
+        state_of thread ≡ first_states (program_of checked.now) procs me.0) }
+    ensures ready { IfOk result (IsThreadOf (program_of checked.now)) }
 {
-    let mut thread = PlainThread::start(
+    PlainThread::start(
         alloc,
         checked.functions(),
         checked.main(),
         checked.private_cells(),
         me,
         procs,
-    )?;
-    thread.want()?;
-    Ok(thread)
+    )
 }
 
 /// The threads of all processors.
@@ -44,9 +43,11 @@ pub fn start_threads<'a>(
     procs: u8,
 ) -> Result<Vec<PlainThread<'a>>, MemFault>
     ensures count { IfOk result (λ threads. length threads.items ≡ procs) }
-    ensures states { IfOk result (λ threads. family_of (first_states (program_of checked.now) procs) (map state_of threads.items) ≡ first_states (program_of checked.now) procs) }
-    ensures ready { IfOk result (λ threads. All (IsReady (program_of checked.now).functions) threads.items) }
-    ensures within { IfOk result (λ threads. All (λ thread. IsStateWithin (extent_in (program_of checked.now)) (state_of thread)) threads.items) }
+    ensures states { IfOk result (λ threads.
+        family_of (first_states (program_of checked.now) procs) (map state_of threads.items) ≡
+        first_states (program_of checked.now) procs) }
+    ensures ready { IfOk result (λ threads.
+        All (IsThreadOf (program_of checked.now)) threads.items) }
 {
     let mut threads = Vec::new(alloc);
     for me in 0..procs {
@@ -55,28 +56,26 @@ pub fn start_threads<'a>(
     Ok(threads)
 }
 
-/// How all processors stand at the start.
-pub fn start_standings(
-    alloc: Global,
-    procs: u8,
-    locks: u16,
-    bars: u8,
-) -> Result<Vec<Standing>, MemFault>
-    ensures count { IfOk result (λ standings. length standings.items ≡ procs) }
-    ensures held { IfOk result (λ standings. (p : ℕ) → held_of (standing_at standings.items p) ≡ held_of no_standing) }
-    ensures arrived { IfOk result (λ standings. (p : ℕ) → arrived_of (standing_at standings.items p) ≡ arrived_of no_standing) }
-    ensures crossed { IfOk result (λ standings. (p : ℕ) → crossed_of (standing_at standings.items p) ≡ crossed_of no_standing) }
-    ensures sizes { IfOk result (λ standings. All (HasSizes locks bars) standings.items) }
+/// The rights of all processors: none holds a lock, and none has come to a barrier.
+pub fn start_rights(alloc: Global, procs: u8, locks: u16, bars: u8) -> Result<Vec<Rights>, MemFault>
+    ensures count { IfOk result (λ rights. length rights.items ≡ procs) }
+    ensures held { IfOk result (λ rights. (p : ℕ) →
+        held_of (rights_at rights.items p) ≡ (λ lock. None)) }
+    ensures arrived { IfOk result (λ rights. (p : ℕ) →
+        arrived_of (rights_at rights.items p) ≡ (λ bar. 0)) }
+    ensures crossed { IfOk result (λ rights. (p : ℕ) →
+        crossed_of (rights_at rights.items p) ≡ (λ bar. 0)) }
+    ensures sizes { IfOk result (λ rights. All (HasSizes locks bars) rights.items) }
 {
-    let mut standings = Vec::new(alloc);
+    let mut rights = Vec::new(alloc);
     for _at in 0..procs {
-        standings.push(Standing::new(alloc, locks, bars)?)?;
+        rights.push(Rights::new(alloc, locks, bars)?)?;
     }
-    Ok(standings)
+    Ok(rights)
 }
 
 /// The memory before the first turn.
-#[tactic(auto, using(crate::proofs::Families::family_of_replicate))]
+#[tactic(auto, using(dsm_base::proofs::Families::family_of_replicate))]
 pub fn start_memory(alloc: Global, cells: u32) -> Result<Items<i64>, MemFault>
     ensures zeros { IfOk result (λ memory. family_of (λ cell. pos 0) memory ≡ (λ cell. pos 0)) }
     ensures length { IfOk result (λ memory. length memory ≡ cells) }
@@ -85,7 +84,7 @@ pub fn start_memory(alloc: Global, cells: u32) -> Result<Items<i64>, MemFault>
 }
 
 /// The versions before the first turn.
-#[tactic(auto, using(crate::proofs::Families::family_of_replicate))]
+#[tactic(auto, using(dsm_base::proofs::Families::family_of_replicate))]
 pub fn start_versions(alloc: Global, locks: u16) -> Result<Numbers, MemFault>
     ensures zeros { IfOk result (λ versions. family_of (λ lock. 0) versions ≡ (λ lock. 0)) }
     ensures length { IfOk result (λ versions. length versions ≡ locks) }

@@ -1,47 +1,28 @@
 //! What a pick tells, and who keeps a processor waiting.
 
-ghost use Rattle.std.specs.Prelude.{◌≡◌, ◌≤◌, Some, length, IfOk};
+ghost use Rattle.std.specs.Prelude.{◌≡◌, ◌≤◌, length, IfOk};
 ghost use Rattle.std.specs.Option.{option_to_list};
-ghost use Rattle.dsm_base.specs.Plain as one_memory;
-ghost use Rattle.dsm_plain.specs.Machine.{standing_at, held_of, arrived_of};
+ghost use Rattle.dsm_base.specs.Rights.{held_of, arrived_of};
+ghost use Rattle.dsm_plain.specs.Machine.{rights_at};
 ghost use Rattle.dsm_plain.specs.Waiting;
 
-use crate::standing::Standing;
-use dsm_base::{Bar, Label, Lock, MemFault, Mode, Proc};
+use dsm_base::{
+    Bar, Holder, Holders, Label, Lock, MemFault, Mode, Proc, Procs, Rights, are_compatible,
+};
 use sqlite_items::Items;
 use std::alloc::Global;
-
-/// Who holds a lock, and how.
-#[derive(Clone, Copy, Debug, PartialEq, Eq)]
-pub struct Holder {
-    pub proc: Proc,
-    pub mode: Mode,
-}
-
-/// Holders by processor, in increasing order.
-pub type Holders = Items<Holder>;
-
-/// Processors in increasing order.
-pub type Procs = Items<Proc>;
 
 /// What a pick of a processor came to. But for `Did` the machine is as before.
 #[derive(Drop)]
 pub enum Picked {
     /// Its thread made this turn.
     Did(Label),
-    /// It wants to take a lock that these hold.
+    /// It wants to take a lock that these hold, in increasing order.
     Blocked(Holders),
-    /// It wants to cross a barrier that these haven't come to.
+    /// It wants to cross a barrier that these haven't come to, in increasing order.
     Missing(Procs),
     /// Its thread has ended or stopped.
     Over,
-}
-
-/// Whether another's hold may stand beside one in this mode.
-fn may_stand_beside(mode: Mode, other: Mode) -> bool
-    ensures { result ≡ one_memory.may_stand_beside mode (Some other) }
-{
-    mode == Mode::Shared && other == Mode::Shared
 }
 
 /// The holder of a lock, where another may not take it beside that one.
@@ -49,7 +30,7 @@ fn blocker(me: Proc, mode: Mode, other: Proc, held: Option<Mode>) -> Option<Hold
     ensures { option_to_list result ≡ Waiting.as_blocker me.0 mode other.0 held }
 {
     let held = held?;
-    if other == me || may_stand_beside(mode, held) {
+    if other == me || are_compatible(mode, held) {
         None
     } else {
         Some(Holder {
@@ -59,34 +40,36 @@ fn blocker(me: Proc, mode: Mode, other: Proc, held: Option<Mode>) -> Option<Hold
     }
 }
 
-/// Those beside whom a processor may not take a lock.
+/// Those beside whom a processor may not take a lock. `MemFault` comes out of memory.
 pub fn blockers(
     alloc: Global,
-    standings: &[Standing],
+    rights: &[Rights],
     me: Proc,
     lock: Lock,
     mode: Mode,
 ) -> Result<Holders, MemFault>
-    requires { length standings.now ≤ 16 }
-    ensures { IfOk result (λ holders. holders ≡ Waiting.blockers (length standings.now) (λ p. held_of (standing_at standings.now p)) me.0 lock.0 mode) }
+    requires { length rights.now ≤ 16 }
+    ensures { IfOk result (λ holders. holders ≡ Waiting.blockers (length rights.now)
+        (λ p. held_of (rights_at rights.now p)) me.0 lock.0 mode) }
 {
     let mut holders = Items::new(alloc);
-    for at in 0..standings.len() {
-        if let Some(holder) = blocker(me, mode, Proc(at as u8), standings[at].mode_at(lock)) {
+    for at in 0..rights.len() {
+        if let Some(holder) = blocker(me, mode, Proc(at as u8), rights[at].mode_at(lock)) {
             holders.push(holder)?;
         }
     }
     Ok(holders)
 }
 
-/// Those who haven't come to a barrier for its next epoch.
-pub fn late(alloc: Global, standings: &[Standing], epoch: u32, bar: Bar) -> Result<Procs, MemFault>
-    requires { length standings.now ≤ 16 }
-    ensures { IfOk result (λ procs. procs ≡ Waiting.late (length standings.now) (λ p. arrived_of (standing_at standings.now p)) epoch bar.0) }
+/// Those who haven't come to a barrier for its next epoch. `MemFault` comes out of memory.
+pub fn late(alloc: Global, rights: &[Rights], epoch: u32, bar: Bar) -> Result<Procs, MemFault>
+    requires { length rights.now ≤ 16 }
+    ensures { IfOk result (λ procs. procs ≡ Waiting.late (length rights.now)
+        (λ p. arrived_of (rights_at rights.now p)) epoch bar.0) }
 {
     let mut procs = Items::new(alloc);
-    for at in 0..standings.len() {
-        if standings[at].arrivals_at(bar) <= epoch {
+    for at in 0..rights.len() {
+        if rights[at].arrivals_at(bar) <= epoch {
             procs.push(Proc(at as u8))?;
         }
     }

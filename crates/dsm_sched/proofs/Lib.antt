@@ -1,2 +1,14 @@
-pub mod Arguments
-pub mod Refused
+pub mod WordsOf
+pub mod FirstLines
+pub mod Entries
+pub mod ArgumentCounts
+pub mod Rounds
+pub mod Numbers
+pub mod PickForms
+pub mod CrashRules
+pub mod Pieces
+pub mod Others
+pub mod Turns
+pub mod Passing
+pub mod Ends
+pub mod ScheduleRows

@@ -1,2 +1,9 @@
+pub mod Words
 pub mod Entries
-pub mod Reading
+pub mod Picks
+pub mod PickTexts
+pub mod Schedules
+pub mod ScheduleTexts
+pub mod Built
+pub mod Crashes
+pub mod Places

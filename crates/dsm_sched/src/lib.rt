@@ -1,11 +1,14 @@
-//! Schedules: which unit comes after which.
+//! Schedules and lists of picks: texts that are read by lines and words, and what they stand for.
 #![tactic(auto)]
 
-mod entry;
+mod arguments;
+mod heading;
+mod lines;
+mod picks;
+mod rows;
 mod schedule;
-#[cfg(test)]
-mod tests;
+mod words;
 
-pub use dsm_words::{MOST_BYTES, MOST_UNITS};
-pub use entry::{Entry, Kind};
-pub use schedule::{Schedule, Units, read_schedule};
+pub use heading::{MOST_BYTES, MOST_UNITS};
+pub use picks::{PickEntries, PickEntry, Picks, read_picks};
+pub use schedule::{Entries, Entry, Schedule, read_schedule};

@@ -10,3 +10,4 @@ pub mod Finds
 pub mod FindParts
 pub mod FindWholes
 pub mod Exact
+pub mod Printable

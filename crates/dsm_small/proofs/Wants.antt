@@ -5,6 +5,7 @@ use Rattle.std.proofs.lemmas.Option.{slice_get_within}
 use Rattle.std.specs.List.{list_all}
 use Rattle.std.specs.Option.{ForSome, IsSomeAnd}
 use Rattle.dsm_base.specs.declared.names.Cell.{Cell}
+use Rattle.dsm_base.specs.declared.names.Fault.{Fault}
 use Rattle.dsm_base.specs.declared.label.Want.{Want}
 use Rattle.dsm_base.specs.Threads.{MayBeDone}
 use Rattle.dsm_small.specs.declared.room.TheConstants.{MOST_ANSWERS}
@@ -95,19 +96,19 @@ pub stands_for : (s : SmallState) (want : Want) → want ≡ small_want s → St
 stands_for s want is = rw is (stands s)
 
 by_want : (s : SmallState) (want : Want) → Stands s want → MayBeDone want → ((cell : Cell) (line : ℕ) → want ≡ Want.Load cell line → ⊥) → (want ≡ Want.End → ⊥)
-    → s.place < length s.program.statements
-by_want s Want.Quiet here may no_load no_end = absurd here
-by_want s (Want.Load cell line) here may no_load no_end = absurd (no_load cell line refl)
-by_want s (Want.Store cell value line) here may no_load no_end = here.0.within
-by_want s (Want.Ask lock mode line) here may no_load no_end = here.0.within
-by_want s (Want.Take lock mode) here may no_load no_end = here.0.within
-by_want s (Want.Give lock line) here may no_load no_end = here.0.within
-by_want s (Want.Arrive bar) here may no_load no_end = absurd here
-by_want s (Want.Cross bar) here may no_load no_end = absurd here
-by_want s Want.Line here may no_load no_end = here
-by_want s Want.End here may no_load no_end = absurd (no_end refl)
-by_want s (Want.Stop fault line) here may no_load no_end = absurd may
-by_want s Want.Over here may no_load no_end = absurd may
+    → ((fault : Fault) (line : ℕ) → want ≡ Want.Stop fault line → ⊥) → s.place < length s.program.statements
+by_want s Want.Quiet here may no_load no_end no_stop = absurd here
+by_want s (Want.Load cell line) here may no_load no_end no_stop = absurd (no_load cell line refl)
+by_want s (Want.Store cell value line) here may no_load no_end no_stop = here.0.within
+by_want s (Want.Ask lock mode line) here may no_load no_end no_stop = here.0.within
+by_want s (Want.Take lock mode) here may no_load no_end no_stop = here.0.within
+by_want s (Want.Give lock line) here may no_load no_end no_stop = here.0.within
+by_want s (Want.Arrive bar) here may no_load no_end no_stop = absurd here
+by_want s (Want.Cross bar) here may no_load no_end no_stop = absurd here
+by_want s Want.Line here may no_load no_end no_stop = here
+by_want s Want.End here may no_load no_end no_stop = absurd (no_end refl)
+by_want s (Want.Stop fault line) here may no_load no_end no_stop = absurd (no_stop fault line refl)
+by_want s Want.Over here may no_load no_end no_stop = absurd may
 
 module _ (s : SmallState) (told : Option Want) (want : Want) (next : ForSome told (λ want. want ≡ small_want s)) (is : told ≡ Some want) where
   stands_told : Stands s want
@@ -119,5 +120,5 @@ module _ (s : SmallState) (told : Option Want) (want : Want) (next : ForSome tol
 
   -- where a step was told that completes a statement there is one
   pub statement_told : IsSomeAnd told MayBeDone → ((cell : Cell) (line : ℕ) → want ≡ Want.Load cell line → ⊥) → (want ≡ Want.End → ⊥)
-      → s.place < length s.program.statements
-  statement_told may no_load no_end = by_want s want stands_told (rw is at may) no_load no_end
+      → ((fault : Fault) (line : ℕ) → want ≡ Want.Stop fault line → ⊥) → s.place < length s.program.statements
+  statement_told may no_load no_end no_stop = by_want s want stands_told (rw is at may) no_load no_end no_stop

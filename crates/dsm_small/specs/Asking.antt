@@ -105,7 +105,8 @@ module _ (s : SmallState) (lock : Lock) (mode : Mode) where
   was_ask Want.Line answer label is completes next = absurd (no_take_on (rw completes.1 at next))
   was_ask Want.End answer label is completes next =
       let ended : Want.Over ≡ Want.Take lock mode = rw completes at next in cc (ended)
-  was_ask (Want.Stop fault line) answer label is completes next = absurd completes
+  was_ask (Want.Stop fault line) answer label is completes next =
+      let stopped : Want.Over ≡ Want.Take lock mode = rw completes at next in cc (stopped)
   was_ask Want.Over answer label is completes next = absurd completes
 
 pub small_asks_first : (program : SmallProgram) (procs me : ℕ) → AsksFirst small_semantics (small_first program procs me)

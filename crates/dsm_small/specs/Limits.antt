@@ -1,6 +1,7 @@
 -- Which programs are small.
 use Rattle.std.specs.Prelude.{ℕ, ◌+◌, Bool, true, false, ◌&&◌, ◌||◌, not, nat_le, List, length, sum_by}
 use Rattle.std.specs.List.{list_any, list_all}
+use Rattle.dsm_base.specs.Output.{ArePrintable}
 use Rattle.dsm_small.specs.declared.tree.Operand.{Operand}
 use Rattle.dsm_small.specs.declared.tree.Product.{Product}
 use Rattle.dsm_small.specs.declared.tree.Term.{Term}
@@ -38,8 +39,21 @@ abbrev pub text_length : Part → ℕ
 text_length (Part.Text text) = length text
 text_length (Part.Value sum) = 0
 
+-- from a space to a tilde
+abbrev pub is_printable : ℕ → Bool
+is_printable byte = nat_le 0x20 byte && nat_le byte 0x7E
+
+abbrev pub are_printable : List ℕ → Bool
+are_printable text = list_all is_printable text
+
+-- what a print writes of the part is printable
+abbrev pub WritesPrintable : Part → Type 0
+WritesPrintable (Part.Text text) = ArePrintable text
+WritesPrintable (Part.Value sum) = Unit {0}
+
+-- a string is printable
 abbrev pub is_small_part : Bool → Part → Bool
-is_small_part has_items (Part.Text text) = true
+is_small_part has_items (Part.Text text) = are_printable text
 is_small_part has_items (Part.Value sum) = is_small_sum has_items sum
 
 -- a print has one to eight parts, and at most 96 bytes of strings

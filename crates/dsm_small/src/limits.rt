@@ -2,7 +2,7 @@
 
 ghost use Rattle.std.specs.Prelude.{◌≡◌, sum_by, nat_le};
 ghost use Rattle.std.specs.List.{list_any, list_all};
-ghost use Rattle.dsm_small.specs.Limits.{operators, is_shared, product_loads, sum_loads, is_small_sum, text_length, is_small_part, are_small_parts, is_small_statement, is_small};
+ghost use Rattle.dsm_small.specs.Limits.{operators, is_shared, product_loads, sum_loads, is_small_sum, text_length, is_printable, are_printable, is_small_part, are_small_parts, is_small_statement, is_small};
 
 use crate::tree::{Factor, Operand, Part, Product, Statement, Sum, Term};
 
@@ -73,6 +73,18 @@ impl Sum {
     }
 }
 
+fn is_printable(byte: u8) -> bool
+    ensures { result ≡ is_printable byte }
+{
+    0x20 <= byte && byte <= 0x7E
+}
+
+fn are_printable(text: &[u8]) -> bool
+    ensures { result ≡ are_printable text.now }
+{
+    text.iter().all(|byte| is_printable(*byte))
+}
+
 impl Part {
     fn text_len(&self) -> usize
         ensures { result ≡ text_length self.now }
@@ -87,7 +99,7 @@ impl Part {
         ensures { result ≡ is_small_part has_items self.now }
     {
         match self {
-            Part::Text(_) => true,
+            Part::Text(text) => are_printable(text.as_slice()),
             Part::Value(sum) => sum.is_small(has_items),
         }
     }

@@ -1,7 +1,8 @@
 //! What a print writes.
 
 ghost use Rattle.std.specs.Prelude.{◌≡◌, ◌+◌, ◌*◌, ◌≤◌, length, sum_by, OnOk};
-ghost use Rattle.dsm_small.specs.Limits.{text_length};
+ghost use Rattle.std.specs.List.{All};
+ghost use Rattle.dsm_small.specs.Limits.{text_length, WritesPrintable};
 ghost use Rattle.dsm_small.specs.Values.{after_text, written, part_text, parts_text};
 
 use crate::room::{Line, MOST_LINE, MOST_VALUE};
@@ -17,7 +18,8 @@ impl Part {
         answers: &mut AnswersLeft<'_>,
         line: &mut Line,
     ) -> Result<(), Halt>
-        requires { length line.old + text_length self.now + MOST_VALUE ≤ MOST_LINE }
+        requires room { length line.old + text_length self.now + MOST_VALUE ≤ MOST_LINE }
+        requires printable { WritesPrintable self.now }
         ensures written { written result line.new answers.new ≡ after_text line.old (part_text who self.now answers.old) }
         ensures short { OnOk result (length line.new ≤ length line.old + text_length self.now + MOST_VALUE) }
     {
@@ -39,7 +41,9 @@ pub fn write_parts(
     answers: &mut AnswersLeft<'_>,
     line: &mut Line,
 ) -> Result<(), Halt>
-    requires { length line.old + sum_by text_length parts.now + MOST_VALUE * length parts.now ≤ MOST_LINE }
+    requires room { length line.old + sum_by text_length parts.now + MOST_VALUE * length parts.now ≤
+        MOST_LINE }
+    requires printable { All WritesPrintable parts.now }
     ensures { written result line.new answers.new ≡ after_text line.old (parts_text who parts.now answers.old) }
 {
     for part in parts {

@@ -71,16 +71,19 @@ pub struct Line {
 
 impl Model for Line {
     ghost use Rattle.std.specs.Prelude.{List, ℕ, ◌≤◌, vec_capacity};
+    ghost use Rattle.dsm_base.specs.Output.{IsLine};
     ghost use Rattle.dsm_small.specs.declared.room.TheConstants.{MOST_LINE};
 
     ghost Value = { List ℕ };
 
     ghost view = { λ room. room.bytes.items };
 
-    ghost invariant = { λ room. MOST_LINE ≤ vec_capacity room.bytes };
+    ghost invariant = { λ room. (MOST_LINE ≤ vec_capacity room.bytes) × IsLine room.bytes.items };
 }
 
 impl Line {
+    ghost use Rattle.dsm_base.specs.Output.{IsLine, ArePrintable};
+
     /// An empty line, with room for all.
     pub fn new(alloc: Global) -> Result<Line, MemFault>
         ensures { IfOk result (λ line. line ≡ []) }
@@ -91,7 +94,8 @@ impl Line {
     }
 
     pub fn append(&mut self, bytes: &[u8])
-        requires { length self.old + length bytes.now ≤ MOST_LINE }
+        requires room { length self.old + length bytes.now ≤ MOST_LINE }
+        requires printable { ArePrintable bytes.now }
         ensures { self.new ≡ self.old ++ bytes.now }
     {
         for byte in bytes {
@@ -106,7 +110,8 @@ impl Line {
     }
 
     pub fn as_slice(&self) -> &[u8]
-        ensures { result.now ≡ self.now }
+        ensures value { result.now ≡ self.now }
+        ensures line { IsLine result.now }
     {
         self.bytes.as_slice()
     }

@@ -30,11 +30,9 @@ impl Task for SmallThread {
 
     ghost use Rattle.dsm_small.specs.Meaning.{small_semantics};
 
-    ghost state = { λ thread. thread.state };
+    ghost kind = { record { state = λ thread. thread.state; semantics = small_semantics } };
 
     ghost told = { λ thread. thread.told };
-
-    ghost semantics = { small_semantics };
 
     fn want(&mut self) -> Want {
         let want = self.state.want(&mut self.line);
@@ -50,6 +48,7 @@ impl Task for SmallThread {
             Want::Load(_, _) => self.state.answers.push(answer),
             Want::Ask(_, _, _) => self.state.asked = true,
             Want::End => self.state.over = true,
+            Want::Stop(_, _) => self.state.over = true,
             _ => self.state.go_on(),
         }
     }

@@ -11,3 +11,11 @@ pub mod Tree
 pub mod Views
 pub mod Sound
 pub mod Programs
+pub mod Heights
+pub mod Lexemes
+pub mod Reading
+pub mod Tokens
+pub mod Gives
+pub mod Operators
+pub mod Roles
+pub mod Kinds

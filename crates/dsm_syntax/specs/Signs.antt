@@ -3,6 +3,7 @@ use Rattle.std.specs.Prelude.{ℕ, List, codes}
 use Rattle.dsm_syntax.specs.declared.sign.Sign.{Sign}
 use Rattle.dsm_syntax.specs.declared.sign.Sign.TheVariants as s
 
+-- how a sign is written
 abbrev pub sign_text : Sign → List ℕ
 sign_text s.ParenOpen = codes "("
 sign_text s.ParenClose = codes ")"

@@ -67,6 +67,6 @@ pub data IsRefused (text : List ℕ) : ProgErr → Type 0 where
       → length text ≤ 262144 → IsCut text items rest → length (tokens_of 0 1 items) ≡ 65537
       → IsRefused text (err.Limit which.Tokens 65537)
 
--- the answer is this one, or want of memory
+-- the answer is this one, or out of memory
 abbrev pub IsAnswer : Result (List Token) ProgErr → Result (List Token) ProgErr → Type 0
 IsAnswer result answer = (result ≡ answer) ⊎ (result ≡ Err err.Memory)

@@ -39,10 +39,12 @@ pub record Initial : Type 0 where
   pub line : ℕ
   pub value : Expression
 
+-- a variable of a function, where it is declared
 pub record Variable : Type 0 where
   pub name : Name
   pub initial : Option Initial
 
+-- a part of a print
 pub data Part : Type 0 where
   part_text : List ℕ → Part
   part_value : Expression → Part
@@ -82,12 +84,14 @@ pub data Params : Type 0 where
   void_params : Params
   named_params : List Name → Params
 
+-- a function
 pub record Function : Type 0 where
   pub returns : Returns
   pub name : Name
   pub params : Params
   pub body : Statements
 
+-- an item of a program
 pub data Item : Type 0 where
   cells : Sharing → List Declarator → Item
   locks : List Declarator → Item

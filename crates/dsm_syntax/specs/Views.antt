@@ -1,8 +1,8 @@
 -- What a syntax tree shows, wherever it lies in memory.
 use Rattle.std.specs.Prelude.{List, [], ◌∷◌, map, Option, Some, None}
-use Rattle.dsm_syntax.specs.declared.tree.Expr as e
+use Rattle.dsm_syntax.specs.declared.tree.Expression as e
 use Rattle.dsm_syntax.specs.declared.tree.Place as p
-use Rattle.dsm_syntax.specs.declared.tree.Expr.{Expr, Number, Paren', Call', Unary', Binary', Choice', Assign', Row_of-Expr, end_of-Expr, more_of-Expr}
+use Rattle.dsm_syntax.specs.declared.tree.Expression.{Expression, Number, Paren', Call', Unary', Binary', Choice', Assign', Row_of-Expression, end_of-Expression, more_of-Expression}
 use Rattle.dsm_syntax.specs.declared.tree.Place.{Place, Single, Element'}
 use Rattle.dsm_syntax.specs.declared.tree.Initial.{Initial}
 use Rattle.dsm_syntax.specs.declared.tree.Variable.{Variable}
@@ -10,8 +10,8 @@ use Rattle.dsm_syntax.specs.declared.tree.Part.{Part}
 use Rattle.dsm_syntax.specs.declared.tree.Part.TheVariants as part
 use Rattle.dsm_syntax.specs.declared.tree.ForStart.{ForStart}
 use Rattle.dsm_syntax.specs.declared.tree.ForStart.TheVariants as start
-use Rattle.dsm_syntax.specs.declared.tree.Stmt as s
-use Rattle.dsm_syntax.specs.declared.tree.Stmt.{Stmt, Block', If', IfElse', While', For', Row_of-Stmt, end_of-Stmt, more_of-Stmt}
+use Rattle.dsm_syntax.specs.declared.tree.Statement as s
+use Rattle.dsm_syntax.specs.declared.tree.Statement.{Statement, Block', If', IfElse', While', For', Row_of-Statement, end_of-Statement, more_of-Statement}
 use Rattle.dsm_syntax.specs.declared.tree.Params.{Params}
 use Rattle.dsm_syntax.specs.declared.tree.Params.TheVariants as params
 use Rattle.dsm_syntax.specs.declared.tree.Function.{Function}
@@ -20,7 +20,7 @@ use Rattle.dsm_syntax.specs.declared.tree.Item.TheVariants as i
 use Rattle.dsm_syntax.specs.Tree as t
 
 abbrev mutual
-  pub view : Expr → t.Expression
+  pub view : Expression → t.Expression
   view (Number n) = t.number n
   view (e.Place place) = t.at (view_place place)
   view (Paren' p x) = t.paren (view x)
@@ -36,35 +36,41 @@ abbrev mutual
   view_place (Single name) = t.single name
   view_place (Element' name p x) = t.element name (view x)
 
-  pub view_row : {n : _} → Row_of-Expr n → t.Expressions
-  view_row end_of-Expr = t.nil
-  view_row (more_of-Expr x rest) = t.cons (view x) (view_row rest)
+  pub view_row : {n : _} → Row_of-Expression n → t.Expressions
+  view_row end_of-Expression = t.nil
+  view_row (more_of-Expression x rest) = t.cons (view x) (view_row rest)
 
-abbrev pub views : List Expr → t.Expressions
+-- expressions, in order
+abbrev pub views : List Expression → t.Expressions
 views [] = t.nil
 views (x ∷ rest) = t.cons (view x) (views rest)
 
+-- what a variable begins with
 abbrev pub view_initial : Initial → t.Initial
 view_initial initial = record { line = initial.line; value = view initial.value }
 
+-- what may be absent
 abbrev pub option_view : {A B : Type 0} → (A → B) → Option A → Option B
 option_view see None = None
 option_view see (Some a) = Some (see a)
 
+-- a variable
 abbrev pub view_variable : Variable → t.Variable
 view_variable variable = record { name = variable.name; initial = option_view view_initial variable.initial }
 
+-- a part of a print
 abbrev pub view_part : Part → t.Part
 view_part (part.Text text) = t.part_text text
 view_part (part.Value x) = t.part_value (view x)
 
+-- what stands first in the head of a `for`
 abbrev pub view_start : ForStart → t.ForStart
 view_start start.Nothing = t.start_nothing
 view_start (start.Variables variables) = t.start_variables (map view_variable variables.items)
 view_start (start.Expression x) = t.start_expression (view x)
 
 abbrev mutual
-  pub view_statement : Stmt → t.Statement
+  pub view_statement : Statement → t.Statement
   view_statement (Block' n statements) = t.block (view_statement_row statements)
   view_statement s.Empty = t.empty
   view_statement (s.Variables variables) = t.variables (map view_variable variables.items)
@@ -83,19 +89,22 @@ abbrev mutual
   view_statement (s.Barrier name) = t.barrier name
   view_statement (s.Print parts) = t.print (map view_part parts.items)
 
-  pub view_statement_row : {n : _} → Row_of-Stmt n → t.Statements
-  view_statement_row end_of-Stmt = t.none
-  view_statement_row (more_of-Stmt statement rest) = t.then (view_statement statement) (view_statement_row rest)
+  pub view_statement_row : {n : _} → Row_of-Statement n → t.Statements
+  view_statement_row end_of-Statement = t.none
+  view_statement_row (more_of-Statement statement rest) = t.then (view_statement statement) (view_statement_row rest)
 
-abbrev pub view_statements : List Stmt → t.Statements
+-- statements, in order
+abbrev pub view_statements : List Statement → t.Statements
 view_statements [] = t.none
 view_statements (statement ∷ rest) = t.then (view_statement statement) (view_statements rest)
 
+-- parameters
 abbrev pub view_params : Params → t.Params
 view_params params.Nothing = t.no_params
 view_params params.Void = t.void_params
 view_params (params.Names names) = t.named_params names.items
 
+-- a function
 abbrev pub view_function : Function → t.Function
 view_function function = record {
   returns = function.returns;
@@ -104,6 +113,7 @@ view_function function = record {
   body = view_statements function.body.items;
 }
 
+-- an item
 abbrev pub view_item : Item → t.Item
 view_item (i.Data sharing cells) = t.cells sharing cells.items
 view_item (i.Locks locks) = t.locks locks.items
@@ -113,5 +123,6 @@ view_item (i.BindEach bind) = t.bind_each bind
 view_item (i.BindBarrier bind) = t.bind_barrier bind
 view_item (i.Function function) = t.function (view_function function)
 
+-- items, in order
 abbrev pub view_items : List Item → List t.Item
 view_items items = map view_item items

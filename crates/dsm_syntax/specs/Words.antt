@@ -3,6 +3,7 @@ use Rattle.std.specs.Prelude.{ℕ, List, codes}
 use Rattle.dsm_syntax.specs.declared.word.Word.{Word}
 use Rattle.dsm_syntax.specs.declared.word.Word.TheVariants as w
 
+-- how a word is written
 abbrev pub word_text : Word → List ℕ
 word_text w.Int = codes "int"
 word_text w.Void = codes "void"

@@ -10,9 +10,11 @@ pub enum Which {
     Text,
     /// Bytes of one name.
     Name,
+    /// Tokens of the program.
     Tokens,
     /// Height of the tree.
     Nesting,
+    /// Functions of the program.
     Functions,
     /// Parameters of one function.
     Params,
@@ -22,9 +24,13 @@ pub enum Which {
     PrintParts,
     /// Bytes of the strings of one print.
     PrintText,
+    /// Cells that all processors share.
     SharedCells,
+    /// Cells that each processor has for itself.
     PrivateCells,
+    /// Locks of the program.
     Locks,
+    /// Barriers of the program.
     Barriers,
 }
 
@@ -94,7 +100,7 @@ pub enum ProgErr {
     NotBuilt {
         line: u32,
     },
-    /// Want of memory.
+    /// Out of memory.
     Memory,
 }
 

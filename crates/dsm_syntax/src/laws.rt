@@ -19,7 +19,8 @@ pub fn tokens_or_refusal()
         ((tokens : List Token) × IsLexed text tokens) ⊎ ((e : ProgErr) × IsRefused text e) }
     ensures not_both { (text : List ℕ) (tokens : List Token) (e : ProgErr) →
         IsLexed text tokens → IsRefused text e → ⊥ }
-    ensures one_refusal { (text : List ℕ) (e f : ProgErr) → IsRefused text e → IsRefused text f → e ≡ f }
+    ensures one_refusal { (text : List ℕ) (e f : ProgErr) → IsRefused text e → IsRefused text f →
+        e ≡ f }
 {}
 
 /// The tokens of a text stand in it in order, each with its slice and its line; their slices, with
@@ -31,11 +32,12 @@ pub fn tokens_in_place()
         Spells tokens text → joined text 0 tokens ≡ text }
 {}
 
-/// A refused text is refused however it goes on, unless its end alone is at fault: it leaves a string,
-/// a comment or a slash open. With what is missing there it is right.
+/// A refused text is refused however it goes on, unless its end alone is at fault: it leaves a
+/// string, a comment or a slash open. With what is missing there it is right.
 pub fn refused_for_good()
     ensures refused { (text more : List ℕ) (e : ProgErr) →
-        IsRefused text e → ((missing : List ℕ) → ¬ EndsOpen text missing) → (f : ProgErr) × IsRefused (text ++ more) f }
+        IsRefused text e → ((missing : List ℕ) → ¬ EndsOpen text missing) →
+        (f : ProgErr) × IsRefused (text ++ more) f }
     ensures completed { (text missing : List ℕ) →
         EndsOpen text missing → (tokens : List Token) × IsLexed (text ++ missing) tokens }
 {}

@@ -117,7 +117,7 @@ fn list(alloc: Global, text: &[u8]) -> Result<Tokens, ProgErr>
 /// - `LiteralTooLarge` comes for a number over 9223372036854775807, with its line.
 /// - `Limit` of `Name` comes for a name of more than 64 bytes, with its whole length.
 /// - `Limit` of `Tokens` comes for the 65,537th token, with 65,537.
-/// - `Memory` comes for want of memory.
+/// - `Memory` comes where memory runs out.
 ///
 /// Of several faults the first from the left is answered.
 pub fn lex(alloc: Global, text: &[u8]) -> Result<Tokens, ProgErr>
@@ -127,7 +127,8 @@ pub fn lex(alloc: Global, text: &[u8]) -> Result<Tokens, ProgErr>
     ensures refused { IfErr result (λ e. (e ≡ ProgErr.Memory) ⊎ IsRefused text.now e) }
 
     // And what is so is answered, unless memory runs out.
-    ensures each_text { (tokens : List Token) → IsLexed text.now tokens → IsAnswer result (Ok tokens) }
+    ensures each_text { (tokens : List Token) → IsLexed text.now tokens →
+        IsAnswer result (Ok tokens) }
     ensures each_fault { (e : ProgErr) → IsRefused text.now e → IsAnswer result (Err e) }
 {
     if MOST_TEXT < text.len() {

@@ -12,11 +12,15 @@ use std::marker::Model;
 /// What a token is.
 #[derive(Debug, Drop)]
 pub enum TokenKind {
+    /// A name that is no word.
     Name(Text),
+    /// A number, which is at least 0.
     Number(i64),
     /// A string, by what stands between its quotes.
     Str(Text),
+    /// A word of the language.
     Word(Word),
+    /// A sign.
     Sign(Sign),
 }
 
@@ -29,8 +33,8 @@ pub struct Token {
     pub line: u32,
 }
 
-/// Tokens in the order of the text, which contracts see as a list. No number is below 0, and no string holds a byte
-/// that it may not.
+/// Tokens in the order of the text, which contracts see as a list. No number is below 0, and no
+/// string holds a byte that it may not.
 #[derive(Debug, Drop)]
 pub struct Tokens {
     list: Items<Token>,
@@ -57,6 +61,7 @@ impl Tokens {
         Tokens { list }
     }
 
+    /// The tokens in order.
     pub fn as_slice(&self) -> &[Token]
         ensures value { result.now ≡ self.now }
         ensures sound { IsTrue (are_sound self.now) }
@@ -64,6 +69,7 @@ impl Tokens {
         self.list.as_slice()
     }
 
+    /// How many tokens there are.
     pub fn len(&self) -> usize
         ensures { result ≡ length self.now }
     {

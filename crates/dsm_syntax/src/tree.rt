@@ -1,7 +1,8 @@
-//! The syntax tree, with a variant for each alternative of the grammar. Each `line` is a line of the text, counted
-//! from 1.
+//! The syntax tree, with a variant for each alternative of the grammar. Each `line` is a line of
+//! the text, counted from 1.
 
-ghost use Rattle.std.specs.Prelude.{IsTrue};
+ghost use Rattle.std.specs.Prelude.{IsTrue, ◌≤◌};
+ghost use Rattle.dsm_syntax.specs.Heights.{height_program};
 ghost use Rattle.dsm_syntax.specs.Sound.{is_sound_program};
 ghost use Rattle.dsm_syntax.specs.Views.{view_items};
 
@@ -36,7 +37,8 @@ pub enum StepOp {
     Decrement,
 }
 
-/// An operator between its operands. Those in one row bind alike; each row binds tighter than the next.
+/// An operator between its operands. Those in one row bind alike; each row binds tighter than the
+/// next.
 #[derive(Clone, Copy, Debug, PartialEq, Eq)]
 pub enum BinaryOp {
     Times,
@@ -96,39 +98,39 @@ pub enum AssignOp {
 }
 
 /// What can be assigned to, and what a lock statement names.
-#[cycle(expr)]
+#[cycle(operands)]
 #[derive(Drop)]
 pub enum Place {
     Single(Name),
     /// A member of an array.
-    Element(Name, Box<Expr>),
+    Element(Name, Box<Expression>),
 }
 
 /// An expression. The lines are those of operators.
-#[cycle(expr)]
+#[cycle(operands)]
 #[derive(Drop)]
-pub enum Expr {
+pub enum Expression {
     Number(i64),
     Place(Place),
     /// In parentheses.
-    Paren(Box<Expr>),
-    Call(Name, Vec<Expr>),
-    Unary(UnaryOp, u32, Box<Expr>),
+    Paren(Box<Expression>),
+    Call(Name, Vec<Expression>),
+    Unary(UnaryOp, u32, Box<Expression>),
     /// A step before the place.
     Prefix(StepOp, u32, Place),
     /// A step behind the place.
     Postfix(Place, StepOp, u32),
-    Binary(Box<Expr>, BinaryOp, u32, Box<Expr>),
+    Binary(Box<Expression>, BinaryOp, u32, Box<Expression>),
     /// `test ? then : other`
-    Choice(Box<Expr>, u32, Box<Expr>, Box<Expr>),
-    Assign(Place, AssignOp, u32, Box<Expr>),
+    Choice(Box<Expression>, u32, Box<Expression>, Box<Expression>),
+    Assign(Place, AssignOp, u32, Box<Expression>),
 }
 
 /// The value that a variable begins with, with the line of its `=`.
 #[derive(Drop)]
 pub struct Initial {
     pub line: u32,
-    pub value: Expr,
+    pub value: Expression,
 }
 
 /// A variable of a function, where it is declared.
@@ -142,7 +144,7 @@ pub struct Variable {
 #[derive(Drop)]
 pub enum Part {
     Text(Text),
-    Value(Expr),
+    Value(Expression),
 }
 
 /// What stands first in the head of a `for`.
@@ -150,24 +152,31 @@ pub enum Part {
 pub enum ForStart {
     Nothing,
     Variables(Vec<Variable>),
-    Expression(Expr),
+    Expression(Expression),
 }
 
 /// A statement.
 #[derive(Drop)]
-pub enum Stmt {
-    Block(Vec<Stmt>),
+pub enum Statement {
+    Block(Vec<Statement>),
     /// `;` alone.
     Empty,
     Variables(Vec<Variable>),
-    Expression(Expr),
-    If(Expr, Box<Stmt>),
-    IfElse(Expr, Box<Stmt>, Box<Stmt>),
-    While(Expr, Box<Stmt>),
-    For(ForStart, Option<Expr>, Option<Expr>, Box<Stmt>),
-    Break { line: u32 },
-    Continue { line: u32 },
-    Return { line: u32, value: Option<Expr> },
+    Expression(Expression),
+    If(Expression, Box<Statement>),
+    IfElse(Expression, Box<Statement>, Box<Statement>),
+    While(Expression, Box<Statement>),
+    For(ForStart, Option<Expression>, Option<Expression>, Box<Statement>),
+    Break {
+        line: u32,
+    },
+    Continue {
+        line: u32,
+    },
+    Return {
+        line: u32,
+        value: Option<Expression>,
+    },
     Acquire(Place),
     AcquireShared(Place),
     Release(Place),
@@ -199,12 +208,13 @@ pub enum Params {
     Names(Vec<Name>),
 }
 
+/// A function of a program.
 #[derive(Drop)]
 pub struct Function {
     pub returns: Returns,
     pub name: Name,
     pub params: Params,
-    pub body: Vec<Stmt>,
+    pub body: Vec<Statement>,
 }
 
 /// Whether data is one memory for all processors, or each has its own.
@@ -260,23 +270,26 @@ pub enum Item {
     Function(Function),
 }
 
-/// The tree of a program; `view_tree` is the list of its items. No number is below 0, and no string holds a
-/// byte that it may not.
+/// The tree of a program; `view_tree` is the list of its items. No number is below 0, no string
+/// holds a byte that it may not, and no function is higher than 64 nodes.
 #[derive(Drop)]
 pub struct Tree {
     items: Vec<Item>,
     ghost sound: { IsTrue (is_sound_program (view_items items.items)) },
+    ghost low: { height_program (view_items items.items) ≤ 64 },
 }
 
 impl Tree {
-    ghost use Rattle.std.specs.Prelude.{◌≡◌, IsTrue};
+    ghost use Rattle.std.specs.Prelude.{◌≡◌, ◌≤◌, IsTrue};
+    ghost use Rattle.dsm_syntax.specs.Heights.{height_program};
     ghost use Rattle.dsm_syntax.specs.Sound.{is_sound_program};
     ghost use Rattle.dsm_syntax.specs.Views.{view_items};
     ghost use Rattle.dsm_syntax.specs.Programs.{view_tree};
 
     /// The tree of these items.
     pub fn new(items: Vec<Item>) -> Tree
-        requires { IsTrue (is_sound_program (view_items items.items)) }
+        requires sound { IsTrue (is_sound_program (view_items items.items)) }
+        requires low { height_program (view_items items.items) ≤ 64 }
         ensures { view_tree result ≡ view_items items.items }
     {
         Tree { items }
@@ -286,6 +299,7 @@ impl Tree {
     pub fn items(&self) -> &[Item]
         ensures value { view_items result.now ≡ view_tree self.now }
         ensures sound { IsTrue (is_sound_program (view_tree self.now)) }
+        ensures low { height_program (view_tree self.now) ≤ 64 }
     {
         self.items.as_slice()
     }

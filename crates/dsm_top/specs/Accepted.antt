@@ -5,7 +5,7 @@ use Rattle.dsm_base.specs.declared.act.Act.{Act}
 use Rattle.dsm_syntax.specs.declared.token.Token.{Token}
 use Rattle.dsm_syntax.specs.Texts.{IsLexed}
 use Rattle.dsm_syntax.specs.Tree.{Item}
-use Rattle.dsm_cursor.specs.Lexemes.{lexemes}
+use Rattle.dsm_syntax.specs.Lexemes.{lexemes}
 use Rattle.dsm_parse.specs.Programs.{IsProgramOf}
 use Rattle.dsm_check.specs.Programs.{Program, checked}
 use Rattle.dsm_check.specs.Setups.{fitting}

@@ -6,7 +6,7 @@ use Rattle.dsm_syntax.specs.declared.errors.ProgErr.{ProgErr}
 use Rattle.dsm_syntax.specs.declared.token.Token.{Token}
 use Rattle.dsm_syntax.specs.Texts.{IsLexed, IsRefused as IsTextRefused}
 use Rattle.dsm_syntax.specs.Tree.{Item}
-use Rattle.dsm_cursor.specs.Lexemes.{lexemes}
+use Rattle.dsm_syntax.specs.Lexemes.{lexemes}
 use Rattle.dsm_parse.specs.Programs.{IsProgramOf}
 use Rattle.dsm_parse.specs.Refusals.{IsRefused as AreTokensRefused}
 use Rattle.dsm_check.specs.Programs.{Program, checked}

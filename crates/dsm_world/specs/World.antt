@@ -4,7 +4,7 @@ use Rattle.std.specs.List.{All, slice_index_or}
 use Rattle.dsm_base.specs.declared.act.Act.{Act}
 use Rattle.dsm_base.specs.declared.setup.Setup.{Setup}
 use Rattle.dsm_base.specs.Family.{update, update_at}
-use Rattle.dsm_base.specs.Threads.{Semantics}
+use Rattle.dsm_base.specs.Threads.{Semantics, Kind}
 use Rattle.dsm_trace.specs.declared.message.Letter.{Letter}
 use Rattle.dsm_trace.specs.declared.message.Msg.{Msg}
 use Rattle.dsm_trace.specs.declared.trace.Rec.{Rec}
@@ -14,7 +14,7 @@ use Rattle.dsm_trace.specs.Effects.{Effect, handled}
 use Rattle.dsm_trace.specs.Told.{Told, told_records, told_by}
 use Rattle.dsm_trace.specs.Rows.{sent_records, unit_records}
 use Rattle.dsm_trace.specs.Fits.{FitsUnits}
-use Rattle.dsm_node.specs.Families.{family_of}
+use Rattle.dsm_base.specs.Family.{family_of}
 use Rattle.dsm_node.specs.Names.{BodyNames}
 use Rattle.dsm_node.specs.Node.{processor_of}
 use Rattle.dsm_node.specs.declared.node.Node.{Node}
@@ -34,17 +34,17 @@ abbrev pub groups_of : {M T S : Type 0} → World M T S → List Group
 groups_of world = reverse world.trace
 
 -- what the trace tells
-abbrev pub told_in : {M T S : Type 0} → (M → ℕ → ℕ → S) → Semantics S → World M T S → Told S
-told_in first threads world = told_by (setup_of world) (first_of first world) threads (groups_of world)
+abbrev pub told_in : {M T S : Type 0} → Kind T S → (M → ℕ → ℕ → S) → World M T S → Told S
+told_in kind first world = told_by (setup_of world) (first_of first world) kind.semantics (groups_of world)
 
 -- what is told without the messages by number
 abbrev pub unnumbered : {S : Type 0} → Told S → Told S
 unnumbered t = record t { messages = λ number. None }
 
 -- the same as the nodes, the channels and the count of messages say it
-abbrev pub shown : {M T S : Type 0} → (T → S) → (M → ℕ → ℕ → S) → World M T S → Told S
-shown state first world = record {
-  processors = family_of (start_processor (setup_of world) (first_of first world)) (map (processor_of state) world.nodes.items);
+abbrev pub shown : {M T S : Type 0} → Kind T S → (M → ℕ → ℕ → S) → World M T S → Told S
+shown kind first world = record {
+  processors = family_of (start_processor (setup_of world) (first_of first world)) (map (processor_of kind) world.nodes.items);
   messages = λ number. None;
   under_way = channel_of world.channels;
   sent = world.sent;
@@ -69,19 +69,19 @@ pub record AreChannels (setup : Setup) (channels : List (List (List Letter))) : 
   pub letters : (p q : ℕ) → All (IsLetterOf setup p q) (channel_of channels p q)
 
 -- there is a node for each processor, and a channel for each two
-pub record IsShaped {M T S : Type 0} (state : T → S) (threads : Semantics S) (world : World M T S) : Type 0 where
+pub record IsShaped {M T S : Type 0} (kind : Kind T S) (world : World M T S) : Type 0 where
   pub some : 0 < world.setup.value.procs
   pub count : length world.nodes.items ≡ world.setup.value.procs
-  pub nodes : (p : ℕ) (default : Node T S) → p < world.setup.value.procs → IsNodeOf state threads world.setup.value p (slice_index_or world.nodes.items p default)
+  pub nodes : (p : ℕ) (default : Node T S) → p < world.setup.value.procs → IsNodeOf kind world.setup.value p (slice_index_or world.nodes.items p default)
   pub channels : AreChannels world.setup.value world.channels
 
 -- besides, the trace fits the units that were applied, and tells what the nodes, the channels and the count of messages say
-pub record IsWhole {M T S : Type 0} (state : T → S) (first : M → ℕ → ℕ → S) (threads : Semantics S) (world : World M T S) : Type 0 where
-  pub shape : IsShaped state threads world
+pub record IsWhole {M T S : Type 0} (kind : Kind T S) (first : M → ℕ → ℕ → S) (world : World M T S) : Type 0 where
+  pub shape : IsShaped kind world
   pub past : List Act
-  pub fits : FitsUnits (setup_of world) (first_of first world) threads past (groups_of world)
+  pub fits : FitsUnits (setup_of world) (first_of first world) kind.semantics past (groups_of world)
   pub units : length past ≡ world.units
-  pub shows : shown state first world ≡ unnumbered (told_in first threads world)
+  pub shows : shown kind first world ≡ unnumbered (told_in kind first world)
 
 -- nothing but the nodes, the channels and the count of messages has changed
 pub record IsSameWorld {M T S : Type 0} (old new : World M T S) : Type 0 where
@@ -95,8 +95,8 @@ abbrev pub with_processor : {S : Type 0} → Told S → ℕ → Processor S → 
 with_processor t p s = record t { processors = update t.processors p s }
 
 -- the turn that a processor can make
-abbrev pub turn_of : {M T S : Type 0} → (T → S) → (M → ℕ → ℕ → S) → Semantics S → World M T S → ℕ → Option Deed
-turn_of state first threads world p = own_turn (setup_of world) threads p ((shown state first world).processors p)
+abbrev pub turn_of : {M T S : Type 0} → Kind T S → (M → ℕ → ℕ → S) → World M T S → ℕ → Option Deed
+turn_of kind first world p = own_turn (setup_of world) kind.semantics p ((shown kind first world).processors p)
 
 -- what the receiver of a message does with it
 abbrev pub handled_at : {S : Type 0} → Told S → Msg → Effect S
@@ -117,11 +117,12 @@ told_delivery setup threads t p q (letter ∷ others) =
 abbrev pub told_unit : {S : Type 0} → Setup → Semantics S → Told S → Act → Told S
 told_unit setup threads t (Act.Step p) = told_records setup threads t (unit_records setup threads t (Act.Step p))
 told_unit setup threads t (Act.Deliver p q) = told_delivery setup threads t p.0 q.0 (t.under_way p.0 q.0)
+told_unit setup threads t _ = t
 
 -- how many units were applied
 abbrev pub units_of : {M T S : Type 0} → World M T S → ℕ
 units_of world = world.units
 
 -- the records of one more unit
-abbrev pub records_of : {M T S : Type 0} → (M → ℕ → ℕ → S) → Semantics S → World M T S → Act → List Rec
-records_of first threads world act = unit_records (setup_of world) threads (told_in first threads world) act
+abbrev pub records_of : {M T S : Type 0} → Kind T S → (M → ℕ → ℕ → S) → World M T S → Act → List Rec
+records_of kind first world act = unit_records (setup_of world) kind.semantics (told_in kind first world) act

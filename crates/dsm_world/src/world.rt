@@ -8,28 +8,20 @@ ghost use Rattle.dsm_trace.specs.Processor.{start_processor};
 ghost use Rattle.dsm_node.specs.Node.{processor_of};
 ghost use Rattle.std.specs.List.{All, list_all};
 ghost use Rattle.dsm_world.specs.Nodes.{IsNodeOf, AreStartNodes};
-ghost use Rattle.dsm_world.specs.Finished.{is_ended};
+ghost use Rattle.dsm_base.specs.Endings.{is_ended};
 
 use crate::channels::Channels;
 use crate::copies::message_copy;
-use crate::lines::{Lines, line_text, lines_of};
-use dsm_base::{Act, Ending, MemFault, Proc, Setup, Task, TaskMaker, Text};
+use crate::lines::{Lines, lines_of};
+use dsm_base::{
+    Act, Finished, MemFault, Proc, Setup, Task, TaskMaker, Text, finished_where, is_ended,
+    line_text,
+};
 use dsm_node::{Node, Stepped};
 use dsm_trace::{Group, Letter, Msg, Rec, Records, Sends, Trace};
 use sqlite_items::Items;
 use std::alloc::Global;
 use std::rc::Rc;
-
-/// How far the threads have come.
-#[derive(Clone, Copy, Debug, PartialEq, Eq)]
-pub enum Finished {
-    /// Each has ended.
-    Done,
-    /// Each has ended or stopped, and some have stopped.
-    Stopped,
-    /// Some have neither ended nor stopped.
-    Unfinished,
-}
 
 /// All processors with their channels, and the trace of what happened.
 #[derive(Drop)]
@@ -78,9 +70,9 @@ fn start_node<M: TaskMaker>(
     me: Proc,
 ) -> Result<Node<M::Made>, MemFault>
     requires me { me.0 < setup.now.value.procs }
-    requires stays { StaysWithin setup.now.value M.Made.semantics (M.first maker.now setup.now.value.procs me.0) }
-    ensures node { IfOk result (IsNodeOf M.Made.state M.Made.semantics setup.now.value me.0) }
-    ensures processor { IfOk result (λ node. processor_of M.Made.state node ≡ start_processor setup.now.value (M.first maker.now setup.now.value.procs) me.0) }
+    requires stays { StaysWithin setup.now.value M.Made.kind.semantics (M.first maker.now setup.now.value.procs me.0) }
+    ensures node { IfOk result (IsNodeOf M.Made.kind setup.now.value me.0) }
+    ensures processor { IfOk result (λ node. processor_of M.Made.kind node ≡ start_processor setup.now.value (M.first maker.now setup.now.value.procs) me.0) }
 {
     let task = maker.start(alloc, me, setup.procs)?;
     Node::start(alloc, setup.clone()?, me, task)
@@ -92,8 +84,8 @@ fn start_nodes<M: TaskMaker>(
     setup: &Rc<Setup>,
     maker: &M,
 ) -> Result<Vec<Node<M::Made>>, MemFault>
-    requires { (p : ℕ) → p < setup.now.value.procs → StaysWithin setup.now.value M.Made.semantics (M.first maker.now setup.now.value.procs p) }
-    ensures { IfOk result (λ nodes. AreStartNodes M.Made.state M.Made.semantics setup.now.value (M.first maker.now setup.now.value.procs) setup.now.value.procs nodes.items) }
+    requires { (p : ℕ) → p < setup.now.value.procs → StaysWithin setup.now.value M.Made.kind.semantics (M.first maker.now setup.now.value.procs p) }
+    ensures { IfOk result (λ nodes. AreStartNodes M.Made.kind setup.now.value (M.first maker.now setup.now.value.procs) setup.now.value.procs nodes.items) }
 {
     let mut nodes = Vec::new(alloc);
     for me in 0..setup.procs {
@@ -102,23 +94,16 @@ fn start_nodes<M: TaskMaker>(
     Ok(nodes)
 }
 
-/// Whether a processor's thread has ended.
-fn has_ended<T: Task>(node: &Node<T>) -> bool
-    ensures { result ≡ is_ended (processor_of T.state node.now).ending }
-{
-    node.ending() == Some(Ending::Ended)
-}
-
 /// Whether each thread has ended.
 fn all_ended<T: Task>(nodes: &[Node<T>]) -> bool
-    ensures { result ≡ list_all (λ node. is_ended (processor_of T.state node).ending) nodes.now }
+    ensures { result ≡ list_all (λ node. is_ended (processor_of T.kind node).ending) nodes.now }
 {
-    nodes.iter().all(|node| has_ended(node))
+    nodes.iter().all(|node| is_ended(node.ending()))
 }
 
 /// Whether each thread has ended or stopped.
 fn all_over<T: Task>(nodes: &[Node<T>]) -> bool
-    ensures { result ≡ list_all (λ node. is_some (processor_of T.state node).ending) nodes.now }
+    ensures { result ≡ list_all (λ node. is_some (processor_of T.kind node).ending) nodes.now }
 {
     nodes.iter().all(|node| node.ending().is_some())
 }
@@ -130,15 +115,14 @@ impl<M: TaskMaker> World<M> {
     ghost use Rattle.dsm_trace.specs.Fits.{IsWithin};
     ghost use Rattle.dsm_trace.specs.History.{deeds_of, ending_of};
     ghost use Rattle.dsm_world.specs.Lines.{lines_of};
-    ghost use Rattle.dsm_world.specs.Finished.{finished_by};
+    ghost use Rattle.dsm_base.specs.Endings.{finished_by};
     ghost use Rattle.dsm_node.specs.Node.{stepped_by, processor_stepped};
     ghost use Rattle.dsm_world.specs.World.{setup_of, shown, unnumbered, with_processor, with_letters, turn_of, handled_at, told_delivery, told_unit, groups_of, units_of, first_of, records_of, IsLetterOf, IsPosted, IsShaped, IsWhole, IsSameWorld};
 
-    /// All processors before their first turns. `MemFault` for want of memory.
+    /// All processors before their first turns. `MemFault` out of memory.
     pub fn new(alloc: Global, setup: Rc<Setup>, maker: M) -> Result<World<M>, MemFault>
-        requires procs { 0 < setup.value.procs }
-        requires stays { (p : ℕ) → p < setup.value.procs → StaysWithin setup.value M.Made.semantics (M.first maker setup.value.procs p) }
-        ensures whole { IfOk result (IsWhole M.Made.state M.first M.Made.semantics) }
+        requires { (p : ℕ) → p < setup.value.procs → StaysWithin setup.value M.Made.kind.semantics (M.first maker setup.value.procs p) }
+        ensures whole { IfOk result (IsWhole M.Made.kind M.first) }
         ensures trace { IfOk result (λ world. groups_of world ≡ []) }
         ensures units { IfOk result (λ world. units_of world ≡ 0) }
         ensures setup { IfOk result (λ world. setup_of world ≡ setup.value) }
@@ -160,11 +144,11 @@ impl<M: TaskMaker> World<M> {
 
     /// A message is sent. Answers what the trace says of it.
     fn post(&mut self, msg: Msg) -> Result<Rec, MemFault>
-        requires shape { IsShaped M.Made.state M.Made.semantics self.old }
+        requires shape { IsShaped M.Made.kind self.old }
         requires msg { IsPosted (setup_of self.old) msg }
         ensures sent { IfOk result (λ sent. sent ≡ Rec.Sent (self.old.sent + 1) msg) }
-        ensures shown { OnOk result (shown M.Made.state M.first self.new ≡ unnumbered (with_message (shown M.Made.state M.first self.old) (self.old.sent + 1) msg)) }
-        ensures shape { OnOk result (IsShaped M.Made.state M.Made.semantics self.new) }
+        ensures shown { OnOk result (shown M.Made.kind M.first self.new ≡ unnumbered (with_message (shown M.Made.kind M.first self.old) (self.old.sent + 1) msg)) }
+        ensures shape { OnOk result (IsShaped M.Made.kind self.new) }
         ensures same { IsSameWorld self.old self.new }
     {
         let number = self.sent.checked_add(1).ok_or(MemFault)?;
@@ -172,19 +156,18 @@ impl<M: TaskMaker> World<M> {
             number,
             msg: message_copy(self.alloc, &msg)?,
         };
-        self.channels
-            .push(msg.from.0 as usize, msg.to.0 as usize, letter)?;
+        self.channels.push(msg.from, msg.to, letter)?;
         self.sent = number;
         Ok(Rec::Sent { number, msg })
     }
 
     /// Messages are sent in their order, and the trace's records of them come after those before.
     fn post_all(&mut self, mut sends: Sends, records: &mut Records) -> Result<(), MemFault>
-        requires shape { IsShaped M.Made.state M.Made.semantics self.old }
+        requires shape { IsShaped M.Made.kind self.old }
         requires sends { All (IsPosted (setup_of self.old)) sends }
         ensures records { OnOk result (records.new ≡ records.old ++ sent_records self.old.sent sends) }
-        ensures shown { OnOk result (shown M.Made.state M.first self.new ≡ unnumbered (told_records (setup_of self.old) M.Made.semantics (shown M.Made.state M.first self.old) (sent_records self.old.sent sends))) }
-        ensures shape { OnOk result (IsShaped M.Made.state M.Made.semantics self.new) }
+        ensures shown { OnOk result (shown M.Made.kind M.first self.new ≡ unnumbered (told_records (setup_of self.old) M.Made.kind.semantics (shown M.Made.kind M.first self.old) (sent_records self.old.sent sends))) }
+        ensures shape { OnOk result (IsShaped M.Made.kind self.new) }
         ensures same { IsSameWorld self.old self.new }
     {
         while !sends.is_empty() {
@@ -196,12 +179,12 @@ impl<M: TaskMaker> World<M> {
 
     /// One turn of a processor, where its thread can make one.
     fn turn(&mut self, proc: Proc) -> Result<Option<Stepped>, MemFault>
-        requires shape { IsShaped M.Made.state M.Made.semantics self.old }
+        requires shape { IsShaped M.Made.kind self.old }
         requires proc { proc.0 < (setup_of self.old).procs }
-        ensures stepped { IfOk result (λ stepped. stepped ≡ stepped_by (setup_of self.old) M.Made.semantics proc.0 ((shown M.Made.state M.first self.old).processors proc.0) (turn_of M.Made.state M.first M.Made.semantics self.old proc.0)) }
-        ensures shown { OnOk result (shown M.Made.state M.first self.new ≡ with_processor (shown M.Made.state M.first self.old) proc.0 (processor_stepped (setup_of self.old) M.Made.semantics proc.0 ((shown M.Made.state M.first self.old).processors proc.0) (turn_of M.Made.state M.first M.Made.semantics self.old proc.0))) }
+        ensures stepped { IfOk result (λ stepped. stepped ≡ stepped_by (setup_of self.old) M.Made.kind.semantics proc.0 ((shown M.Made.kind M.first self.old).processors proc.0) (turn_of M.Made.kind M.first self.old proc.0)) }
+        ensures shown { OnOk result (shown M.Made.kind M.first self.new ≡ with_processor (shown M.Made.kind M.first self.old) proc.0 (processor_stepped (setup_of self.old) M.Made.kind.semantics proc.0 ((shown M.Made.kind M.first self.old).processors proc.0) (turn_of M.Made.kind M.first self.old proc.0))) }
         ensures sends { IfOk result (λ stepped. IfSome stepped (λ one. All (IsPosted (setup_of self.old)) one.sends)) }
-        ensures shape { OnOk result (IsShaped M.Made.state M.Made.semantics self.new) }
+        ensures shape { OnOk result (IsShaped M.Made.kind self.new) }
         ensures same { IsSameWorld self.old self.new }
     {
         self.nodes[proc.0 as usize].step()
@@ -209,12 +192,12 @@ impl<M: TaskMaker> World<M> {
 
     /// A processor handles a letter that is to it.
     fn handle(&mut self, letter: &Letter) -> Result<Sends, MemFault>
-        requires shape { IsShaped M.Made.state M.Made.semantics self.old }
+        requires shape { IsShaped M.Made.kind self.old }
         requires msg { IsPosted (setup_of self.old) letter.now.msg }
-        ensures sends { IfOk result (λ sends. sends ≡ (handled_at (shown M.Made.state M.first self.old) letter.now.msg).sends) }
-        ensures shown { OnOk result (shown M.Made.state M.first self.new ≡ with_processor (shown M.Made.state M.first self.old) letter.now.msg.to.0 (handled_at (shown M.Made.state M.first self.old) letter.now.msg).processor) }
+        ensures sends { IfOk result (λ sends. sends ≡ (handled_at (shown M.Made.kind M.first self.old) letter.now.msg).sends) }
+        ensures shown { OnOk result (shown M.Made.kind M.first self.new ≡ with_processor (shown M.Made.kind M.first self.old) letter.now.msg.to.0 (handled_at (shown M.Made.kind M.first self.old) letter.now.msg).processor) }
         ensures posted { IfOk result (λ sends. All (IsPosted (setup_of self.old)) sends) }
-        ensures shape { OnOk result (IsShaped M.Made.state M.Made.semantics self.new) }
+        ensures shape { OnOk result (IsShaped M.Made.kind self.new) }
         ensures same { IsSameWorld self.old self.new }
     {
         self.nodes[letter.msg.to.0 as usize].receive(&letter.msg)
@@ -222,26 +205,26 @@ impl<M: TaskMaker> World<M> {
 
     /// The oldest letter from one processor to another is taken out.
     fn take_oldest(&mut self, from: Proc, to: Proc) -> Option<Letter>
-        requires shape { IsShaped M.Made.state M.Made.semantics self.old }
+        requires shape { IsShaped M.Made.kind self.old }
         requires from { from.0 < (setup_of self.old).procs }
         requires to { to.0 < (setup_of self.old).procs }
-        ensures letter { MatchOption result ((shown M.Made.state M.first self.old).under_way from.0 to.0 ≡ []) (λ letter. (shown M.Made.state M.first self.old).under_way from.0 to.0 ≡ letter ∷ (shown M.Made.state M.first self.new).under_way from.0 to.0) }
+        ensures letter { MatchOption result ((shown M.Made.kind M.first self.old).under_way from.0 to.0 ≡ []) (λ letter. (shown M.Made.kind M.first self.old).under_way from.0 to.0 ≡ letter ∷ (shown M.Made.kind M.first self.new).under_way from.0 to.0) }
         ensures named { IfSome result (IsLetterOf (setup_of self.old) from.0 to.0) }
-        ensures shown { shown M.Made.state M.first self.new ≡ with_letters (shown M.Made.state M.first self.old) from.0 to.0 ((shown M.Made.state M.first self.new).under_way from.0 to.0) }
-        ensures none { IfNone result (shown M.Made.state M.first self.new ≡ shown M.Made.state M.first self.old) }
-        ensures shape { IsShaped M.Made.state M.Made.semantics self.new }
+        ensures shown { shown M.Made.kind M.first self.new ≡ with_letters (shown M.Made.kind M.first self.old) from.0 to.0 ((shown M.Made.kind M.first self.new).under_way from.0 to.0) }
+        ensures none { IfNone result (shown M.Made.kind M.first self.new ≡ shown M.Made.kind M.first self.old) }
+        ensures shape { IsShaped M.Made.kind self.new }
         ensures same { IsSameWorld self.old self.new }
     {
-        self.channels.pop(from.0 as usize, to.0 as usize)
+        self.channels.pop(from, to)
     }
 
     /// A step of a processor. Answers the records of its turn, where it makes one.
     fn step(&mut self, proc: Proc) -> Result<Records, MemFault>
-        requires shape { IsShaped M.Made.state M.Made.semantics self.old }
+        requires shape { IsShaped M.Made.kind self.old }
         requires proc { proc.0 < (setup_of self.old).procs }
-        ensures records { IfOk result (λ records. records ≡ step_records (setup_of self.old) M.Made.semantics (shown M.Made.state M.first self.old) proc.0 (turn_of M.Made.state M.first M.Made.semantics self.old proc.0)) }
-        ensures shown { OnOk result (shown M.Made.state M.first self.new ≡ unnumbered (told_records (setup_of self.old) M.Made.semantics (shown M.Made.state M.first self.old) (step_records (setup_of self.old) M.Made.semantics (shown M.Made.state M.first self.old) proc.0 (turn_of M.Made.state M.first M.Made.semantics self.old proc.0)))) }
-        ensures shape { OnOk result (IsShaped M.Made.state M.Made.semantics self.new) }
+        ensures records { IfOk result (λ records. records ≡ step_records (setup_of self.old) M.Made.kind.semantics (shown M.Made.kind M.first self.old) proc.0 (turn_of M.Made.kind M.first self.old proc.0)) }
+        ensures shown { OnOk result (shown M.Made.kind M.first self.new ≡ unnumbered (told_records (setup_of self.old) M.Made.kind.semantics (shown M.Made.kind M.first self.old) (step_records (setup_of self.old) M.Made.kind.semantics (shown M.Made.kind M.first self.old) proc.0 (turn_of M.Made.kind M.first self.old proc.0)))) }
+        ensures shape { OnOk result (IsShaped M.Made.kind self.new) }
         ensures same { IsSameWorld self.old self.new }
     {
         let mut records = Items::new(self.alloc);
@@ -270,12 +253,12 @@ impl<M: TaskMaker> World<M> {
 
     /// A delivery of the oldest letter. Answers the records of it, where there is one.
     fn deliver(&mut self, from: Proc, to: Proc) -> Result<Records, MemFault>
-        requires shape { IsShaped M.Made.state M.Made.semantics self.old }
+        requires shape { IsShaped M.Made.kind self.old }
         requires from { from.0 < (setup_of self.old).procs }
         requires to { to.0 < (setup_of self.old).procs }
-        ensures records { IfOk result (λ records. records ≡ delivery_records (shown M.Made.state M.first self.old) to.0 ((shown M.Made.state M.first self.old).under_way from.0 to.0)) }
-        ensures shown { OnOk result (shown M.Made.state M.first self.new ≡ unnumbered (told_delivery (setup_of self.old) M.Made.semantics (shown M.Made.state M.first self.old) from.0 to.0 ((shown M.Made.state M.first self.old).under_way from.0 to.0))) }
-        ensures shape { OnOk result (IsShaped M.Made.state M.Made.semantics self.new) }
+        ensures records { IfOk result (λ records. records ≡ delivery_records (shown M.Made.kind M.first self.old) to.0 ((shown M.Made.kind M.first self.old).under_way from.0 to.0)) }
+        ensures shown { OnOk result (shown M.Made.kind M.first self.new ≡ unnumbered (told_delivery (setup_of self.old) M.Made.kind.semantics (shown M.Made.kind M.first self.old) from.0 to.0 ((shown M.Made.kind M.first self.old).under_way from.0 to.0))) }
+        ensures shape { OnOk result (IsShaped M.Made.kind self.new) }
         ensures same { IsSameWorld self.old self.new }
     {
         let mut records = Items::new(self.alloc);
@@ -292,29 +275,32 @@ impl<M: TaskMaker> World<M> {
 
     /// What happens in one unit. Answers its records.
     fn unit(&mut self, act: Act) -> Result<Records, MemFault>
-        requires shape { IsShaped M.Made.state M.Made.semantics self.old }
+        requires shape { IsShaped M.Made.kind self.old }
         requires act { IsWithin (setup_of self.old) act }
-        ensures records { IfOk result (λ records. records ≡ unit_records (setup_of self.old) M.Made.semantics (shown M.Made.state M.first self.old) act) }
-        ensures shown { OnOk result (shown M.Made.state M.first self.new ≡ unnumbered (told_unit (setup_of self.old) M.Made.semantics (shown M.Made.state M.first self.old) act)) }
-        ensures shape { OnOk result (IsShaped M.Made.state M.Made.semantics self.new) }
+        ensures records { IfOk result (λ records. records ≡ unit_records (setup_of self.old) M.Made.kind.semantics (shown M.Made.kind M.first self.old) act) }
+        ensures shown { OnOk result (shown M.Made.kind M.first self.new ≡ unnumbered (told_unit (setup_of self.old) M.Made.kind.semantics (shown M.Made.kind M.first self.old) act)) }
+        ensures shape { OnOk result (IsShaped M.Made.kind self.new) }
         ensures same { IsSameWorld self.old self.new }
     {
         match act {
             Act::Step(proc) => self.step(proc),
             Act::Deliver(from, to) => self.deliver(from, to),
+            Act::Ckpt(_) | Act::Block(_) | Act::Crash(_) | Act::Torn(..) | Act::Restart(_) => {
+                Ok(Items::new(self.alloc))
+            }
         }
     }
 
-    /// One more unit. Answers the lines that go out in it. `MemFault` for want of memory, or where a
+    /// One more unit. Answers the lines that go out in it. `MemFault` out of memory, or where a
     /// number of a turn, a version, a message or a unit doesn't fit; the trace is then as before, and
     /// the world may only tell it, give it up or be dropped.
     pub fn apply(&mut self, act: Act) -> Result<Lines, MemFault>
-        requires whole { IsWhole M.Made.state M.first M.Made.semantics self.old }
+        requires whole { IsWhole M.Made.kind M.first self.old }
         requires act { IsWithin (setup_of self.old) act }
-        ensures trace { OnOk result (groups_of self.new ≡ with_unit (units_of self.old + 1) (records_of M.first M.Made.semantics self.old act) (groups_of self.old)) }
+        ensures trace { OnOk result (groups_of self.new ≡ with_unit (units_of self.old + 1) (records_of M.Made.kind M.first self.old act) (groups_of self.old)) }
         ensures units { OnOk result (units_of self.new ≡ units_of self.old + 1) }
-        ensures lines { IfOk result (λ lines. lines ≡ lines_of (records_of M.first M.Made.semantics self.old act)) }
-        ensures whole { OnOk result (IsWhole M.Made.state M.first M.Made.semantics self.new) }
+        ensures lines { IfOk result (λ lines. lines ≡ lines_of (records_of M.Made.kind M.first self.old act)) }
+        ensures whole { OnOk result (IsWhole M.Made.kind M.first self.new) }
         ensures err { OnErr result (groups_of self.new ≡ groups_of self.old) }
         ensures err_units { OnErr result (units_of self.new ≡ units_of self.old) }
         ensures setup { setup_of self.new ≡ setup_of self.old }
@@ -351,7 +337,7 @@ impl<M: TaskMaker> World<M> {
 
     /// How far the threads have come. Takes no memory.
     pub fn finished(&self) -> Finished
-        requires { IsWhole M.Made.state M.first M.Made.semantics self.now }
+        requires { IsWhole M.Made.kind M.first self.now }
         ensures { result ≡ finished_by (setup_of self.now).procs (λ p. ending_of (deeds_of p (groups_of self.now))) }
     {
         if all_ended(&self.nodes) {

@@ -1,7 +1,7 @@
 use Rattle.std.proofs.Common.{◌≡◌, ◌++◌, map, drop}
 use Rattle.dsm_check.specs.Views.{view_part}
-use Rattle.dsm_check.specs.SemanticsWithin.{Extent, ArePartsWithin}
-use Rattle.dsm_check.specs.Semantics.{parts_text}
+use Rattle.dsm_semantics.specs.Within.{Extent, ArePartsWithin}
+use Rattle.dsm_semantics.specs.Semantics.{parts_text}
 use Rattle.dsm_interpreter.proofs.Lines.{Remain}
 use Rattle.dsm_interpreter.proofs.print.write_parts.Given as goal
 

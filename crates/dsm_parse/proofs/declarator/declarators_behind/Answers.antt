@@ -1,6 +1,6 @@
 use Rattle.std.proofs.Common.{sym, ◌∙◌}
-use Rattle.dsm_parse.proofs.Lists.{more_turn}
-use Rattle.dsm_parse.proofs.Declarations.{good_declarator}
+use Rattle.dsm_laws_grammar.proofs.Lists.{more_turn}
+use Rattle.dsm_laws_grammar.proofs.Declarations.{good_declarator}
 use Rattle.dsm_parse.proofs.declarator.declarators_behind.Goals as goal
 
 pub loop-alloc-preserved : goal.loop-alloc-preserved

@@ -1,6 +1,6 @@
 use Rattle.std.proofs.Common.{[], ◌∷◌, ◌≡◌, length}
-use Rattle.dsm_cursor.specs.Reading.{gathered, more_of}
-use Rattle.dsm_parse.specs.Items.{declarator}
+use Rattle.dsm_syntax.specs.Reading.{gathered, more_of}
+use Rattle.dsm_laws_grammar.specs.Items.{declarator}
 use Rattle.dsm_parse.proofs.declarator.declarators_behind.Given as goal
 
 abbrev pub invariant-loop-alloc : goal.invariant-loop-alloc

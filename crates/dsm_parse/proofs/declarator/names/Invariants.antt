@@ -1,6 +1,6 @@
 use Rattle.std.proofs.Common.{◌≡◌, length}
-use Rattle.dsm_cursor.specs.Reading.{gathered, more_of, list_of}
-use Rattle.dsm_cursor.specs.Tokens.{read_name}
+use Rattle.dsm_syntax.specs.Reading.{gathered, more_of, list_of}
+use Rattle.dsm_syntax.specs.Tokens.{read_name}
 use Rattle.dsm_parse.proofs.declarator.names.Given as goal
 
 abbrev pub invariant-loop-alloc : goal.invariant-loop-alloc

@@ -2,16 +2,16 @@ use Rattle.std.proofs.Common.{arith, ◌≡◌, ◌≤◌, ◌<◌, ◌+◌, tru
 use Rattle.std.proofs.lemmas.List.{map-append}
 use Rattle.std.proofs.lemmas.Result.{err_from_is_err_and}
 use Rattle.dsm_syntax.specs.declared.sign.Sign.{Sign}
-use Rattle.dsm_syntax.specs.declared.tree.Expr.{Expr}
+use Rattle.dsm_syntax.specs.declared.tree.Expression.{Expression}
 use Rattle.dsm_parse.specs.declared.measured.Measured.{Measured}
 use Rattle.dsm_syntax.specs.Views.{view, view_place}
-use Rattle.dsm_cursor.specs.Gives.{Gives}
-use Rattle.dsm_parse.specs.Heights.{height, height_arguments}
-use Rattle.dsm_cursor.specs.Reading.{and_then, look, tail, is_sign, gathered, more_of}
-use Rattle.dsm_parse.specs.Signs.{infix_of, infix_tightness}
-use Rattle.dsm_parse.specs.Expressions.{below, climb, operation, place_behind, expression, expressions}
-use Rattle.dsm_parse.proofs.Lists.{more_gathers, more_falls}
-use Rattle.dsm_parse.proofs.Expressions.{expression_good}
+use Rattle.dsm_syntax.specs.Gives.{Gives}
+use Rattle.dsm_syntax.specs.Heights.{height, height_arguments}
+use Rattle.dsm_syntax.specs.Reading.{and_then, look, tail, is_sign, gathered, more_of}
+use Rattle.dsm_syntax.specs.Roles.{infix_of, infix_tightness}
+use Rattle.dsm_laws_grammar.specs.Expressions.{below, climb, operation, place_behind, expression, expressions}
+use Rattle.dsm_laws_grammar.proofs.Lists.{more_gathers, more_falls}
+use Rattle.dsm_laws_grammar.proofs.Expressions.{expression_good}
 use Rattle.dsm_parse.proofs.Turns.{level_below, place_below, turns_on, turns_none, binds_too_little, binds_nothing, none_of, height_append}
 use Rattle.dsm_parse.proofs.expression.+expression.Goals as goal
 use Rattle.dsm_parse.proofs.expression.+expression.Goals.{climb-in-Some+then-tightness-least, climb-in_default}
@@ -54,10 +54,10 @@ climb-returns-in_err-left-clause-read t c =
     let next : infix_of (look c.loop-operator.cursor) ≡ Some (c.in-Some.operator, c.in-Some.line) = sym c.next.ensures ∙ c.in-Some.is in
     let binds : c.args.least < infix_tightness (view c.loop-operator.left.tree) c.in-Some.operator = omega (arith, c.tightness.ensures, c.if-tightness-least.false) in
     let low : height (view c.loop-operator.left.tree) ≤ c.args.depth = omega (arith, c.loop-operator.invariant.height, c.in_ok-rise.ensures.taken.0) in
-    let one = subst (λ l. Gives (λ (e : Measured Expr). view e.tree) (operation c.args.depth (below c.args.depth) (Some (c.in-Some.operator, c.in-Some.line)) (view c.loop-operator.left.tree) l) (Err c.in_err-left.field-0.0) c.operation.new.cursor) c.in_ok-rise.ensures.taken.1 c.in_err-left.ensures.read in
+    let one = subst (λ l. Gives (λ (e : Measured Expression). view e.tree) (operation c.args.depth (below c.args.depth) (Some (c.in-Some.operator, c.in-Some.line)) (view c.loop-operator.left.tree) l) (Err c.in_err-left.field-0.0) c.operation.new.cursor) c.in_ok-rise.ensures.taken.1 c.in_err-left.ensures.read in
     let p = err_from_is_err_and c.from_residual-in_err-left.result c.from_residual-in_err-left.ensures.1 in
-    subst (λ r. Gives (λ (e : Measured Expr). view e.tree) r c.from_residual-in_err-left.result c.operation.new.cursor) (sym c.loop-operator.invariant.read)
-    (rw (p.1, p.2) (turns_none c.args.depth c.args.least (view c.loop-operator.left.tree) c.in-Some.operator c.in-Some.line c.loop-operator.cursor next (λ (e : Measured Expr). view e.tree) (λ (e : Measured Expr). view e.tree) c.in_err-left.field-0.0 c.operation.new.cursor binds low one))
+    subst (λ r. Gives (λ (e : Measured Expression). view e.tree) r c.from_residual-in_err-left.result c.operation.new.cursor) (sym c.loop-operator.invariant.read)
+    (rw (p.1, p.2) (turns_none c.args.depth c.args.least (view c.loop-operator.left.tree) c.in-Some.operator c.in-Some.line c.loop-operator.cursor next (λ (e : Measured Expression). view e.tree) (λ (e : Measured Expression). view e.tree) c.in_err-left.field-0.0 c.operation.new.cursor binds low one))
 
 pub climb-loop-operator-preserved : goal.climb-loop-operator-preserved
 climb-loop-operator-preserved t c =

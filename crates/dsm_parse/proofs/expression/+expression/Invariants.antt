@@ -1,8 +1,8 @@
 use Rattle.std.proofs.Common.{◌≡◌, ◌+◌, ◌≤◌, ◌-◌, ◌*◌, map, length}
 use Rattle.dsm_syntax.specs.Views.{view}
-use Rattle.dsm_parse.specs.Heights.{height, height_arguments}
-use Rattle.dsm_cursor.specs.Reading.{gathered, list_of, more_of}
-use Rattle.dsm_parse.specs.Expressions.{below, climb, expressions}
+use Rattle.dsm_syntax.specs.Heights.{height, height_arguments}
+use Rattle.dsm_syntax.specs.Reading.{gathered, list_of, more_of}
+use Rattle.dsm_laws_grammar.specs.Expressions.{below, climb, expressions}
 use Rattle.dsm_parse.proofs.expression.+expression.Given as goal
 
 abbrev pub decreases-at_least : goal.decreases-at_least

@@ -1,6 +1,6 @@
 use Rattle.std.proofs.Common.{sym, ◌∙◌}
-use Rattle.dsm_parse.proofs.Lists.{more_turn}
-use Rattle.dsm_parse.proofs.Functions.{good_param}
+use Rattle.dsm_laws_grammar.proofs.Lists.{more_turn}
+use Rattle.dsm_laws_grammar.proofs.Functions.{good_param}
 use Rattle.dsm_parse.proofs.function.named_params.Goals as goal
 
 pub loop-alloc-preserved : goal.loop-alloc-preserved

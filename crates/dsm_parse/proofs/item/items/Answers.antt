@@ -4,7 +4,7 @@ use Rattle.std.proofs.lemmas.List.{map-append}
 use Rattle.std.proofs.lemmas.Result.{err_from_is_err_and}
 use Rattle.dsm_syntax.specs.declared.tree.Item.{Item}
 use Rattle.dsm_syntax.specs.Views.{view_item, view_items}
-use Rattle.dsm_parse.proofs.Items.{items_turn, items_none, item_shorter}
+use Rattle.dsm_laws_grammar.proofs.Items.{items_turn, items_none, item_shorter}
 use Rattle.dsm_parse.proofs.item.items.Goals as goal
 
 pub loop-alloc-preserved : goal.loop-alloc-preserved

@@ -1,7 +1,7 @@
 use Rattle.std.proofs.Common.{◌≡◌, length}
 use Rattle.dsm_syntax.specs.Views.{view_items}
-use Rattle.dsm_cursor.specs.Reading.{gathered}
-use Rattle.dsm_parse.specs.Items as r
+use Rattle.dsm_syntax.specs.Reading.{gathered}
+use Rattle.dsm_laws_grammar.specs.Items as r
 use Rattle.dsm_parse.proofs.item.items.Given as goal
 
 abbrev pub invariant-loop-alloc : goal.invariant-loop-alloc

@@ -2,10 +2,10 @@ use Rattle.std.proofs.Common.{arith, ◌≡◌, true, map, [], ◌∷◌, sym, a
 use Rattle.std.proofs.lemmas.List.{map-append}
 use Rattle.dsm_syntax.specs.declared.sign.Sign.{Sign}
 use Rattle.dsm_syntax.specs.Views.{view_part}
-use Rattle.dsm_cursor.specs.Reading.{tail, is_sign}
-use Rattle.dsm_parse.specs.Statements as reader
-use Rattle.dsm_parse.proofs.Lists.{more_turn, more_falls}
-use Rattle.dsm_parse.proofs.Heads.{part_good}
+use Rattle.dsm_syntax.specs.Reading.{tail, is_sign}
+use Rattle.dsm_laws_grammar.specs.Statements as reader
+use Rattle.dsm_laws_grammar.proofs.Lists.{more_turn, more_falls}
+use Rattle.dsm_laws_grammar.proofs.Heads.{part_good}
 use Rattle.dsm_parse.proofs.print.parts.Goals as goal
 
 pub loop-alloc-smaller : goal.loop-alloc-smaller

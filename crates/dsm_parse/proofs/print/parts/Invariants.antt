@@ -1,7 +1,7 @@
 use Rattle.std.proofs.Common.{◌≡◌, map, length}
 use Rattle.dsm_syntax.specs.Views.{view_part}
-use Rattle.dsm_cursor.specs.Reading.{gathered, more_of, list_of}
-use Rattle.dsm_parse.specs.Statements as reader
+use Rattle.dsm_syntax.specs.Reading.{gathered, more_of, list_of}
+use Rattle.dsm_laws_grammar.specs.Statements as reader
 use Rattle.dsm_parse.proofs.print.parts.Given as goal
 
 abbrev pub invariant-loop-alloc : goal.invariant-loop-alloc

@@ -1,6 +1,6 @@
 use Rattle.std.proofs.Common.{◌≡◌, ◌≤◌, ◌==◌, false, List, [], ◌∷◌, length, sym, ◌∙◌, arith}
 use Rattle.dsm_syntax.specs.declared.token.Token.{Token}
-use Rattle.dsm_parse.proofs.Whole.{line_at_min}
+use Rattle.dsm_laws_grammar.proofs.Whole.{line_at_min}
 use Rattle.dsm_parse.proofs.program.line_at.Goals as goal
 
 some : (tokens : List Token) → (length tokens == 0) ≡ false → 1 ≤ length tokens

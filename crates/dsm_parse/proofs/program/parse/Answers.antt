@@ -2,12 +2,12 @@ use Rattle.std.proofs.Common.{◌≡◌, true, sym, ◌∙◌, subst}
 use Rattle.std.proofs.lemmas.Result.{err_from_is_err_and}
 use Rattle.dsm_syntax.specs.Views.{view_items}
 use Rattle.dsm_syntax.specs.Sound.{are_sound}
-use Rattle.dsm_cursor.specs.Lexemes.{lexemes}
-use Rattle.dsm_parse.specs.Programs.{IsProgramOf}
-use Rattle.dsm_parse.specs.Refusals.{IsRefused}
-use Rattle.dsm_parse.proofs.Exact.{one_program}
-use Rattle.dsm_parse.proofs.Soundness.{Sound, of_tokens, sound_program}
-use Rattle.dsm_parse.proofs.Whole.{not_refused, one_refusal}
+use Rattle.dsm_syntax.specs.Lexemes.{lexemes}
+use Rattle.dsm_laws_grammar.specs.Programs.{IsProgramOf}
+use Rattle.dsm_laws_grammar.specs.Refusals.{IsRefused}
+use Rattle.dsm_laws_grammar.proofs.Exact.{one_program}
+use Rattle.dsm_laws_grammar.proofs.Soundness.{Sound, of_tokens, sound_program}
+use Rattle.dsm_laws_grammar.proofs.Whole.{not_refused, one_refusal}
 use Rattle.dsm_parse.proofs.program.parse.Goals as goal
 
 pub returns-in_err-items-clause-each_program : goal.returns-in_err-items-clause-each_program
@@ -24,7 +24,10 @@ pub new-requires : goal.new-requires
 new-requires c =
     let p = c.in_ok-items.ensures.found in
     let sound = subst (λ l. are_sound l ≡ true) (sym c.as_slice.ensures.value) c.as_slice.ensures.sound in
-    sound_program (view_items c.in_ok-items.items.items) (subst Sound (sym p.spelled) (of_tokens c.as_slice.result.now sound))
+    record {
+      sound = sound_program (view_items c.in_ok-items.items.items) (subst Sound (sym p.spelled) (of_tokens c.as_slice.result.now sound));
+      low = p.low;
+    }
 
 pub returns-clause-each_program : goal.returns-clause-each_program
 returns-clause-each_program c all p =

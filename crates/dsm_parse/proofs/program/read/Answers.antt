@@ -2,8 +2,8 @@ use Rattle.std.proofs.Common.{◌-◌, ◌+◌, List, length, Vec, Global, ap, �
 use Rattle.dsm_syntax.specs.declared.tree.Item.{Item}
 use Rattle.dsm_syntax.specs.Tree as t
 use Rattle.dsm_syntax.specs.Views.{view_items}
-use Rattle.dsm_parse.specs.Refusals.{line_at}
-use Rattle.dsm_parse.proofs.Whole.{is_found, left_within, is_unexpected, is_too_high}
+use Rattle.dsm_laws_grammar.specs.Refusals.{line_at}
+use Rattle.dsm_laws_grammar.proofs.Whole.{is_found, left_within, is_unexpected, is_too_high}
 use Rattle.dsm_parse.proofs.program.read.Goals as goal
 
 abbrev see : Vec Item Global → List t.Item

@@ -1,8 +1,8 @@
 use Rattle.std.proofs.Common.{arith, ◌≡◌, ◌-◌, suc, map, [], ◌∷◌, sym, ap, ◌∙◌, subst}
 use Rattle.std.proofs.lemmas.List.{map-append}
 use Rattle.dsm_syntax.specs.Views.{view_statement}
-use Rattle.dsm_cursor.specs.Gives.{Gives}
-use Rattle.dsm_parse.specs.Statements as reader
+use Rattle.dsm_syntax.specs.Gives.{Gives}
+use Rattle.dsm_laws_grammar.specs.Statements as reader
 use Rattle.dsm_parse.proofs.Rounds.{statements_turn, statement_falls, statements_end, statement_level, block_read}
 use Rattle.dsm_parse.proofs.statement.+statement.Goals as goal
 

@@ -1,8 +1,8 @@
 use Rattle.std.proofs.Common.{◌≡◌, map, length, ◌*◌, ◌+◌}
 use Rattle.dsm_syntax.specs.Views.{view_statement}
-use Rattle.dsm_cursor.specs.Reading.{gathered}
-use Rattle.dsm_parse.specs.Statements as reader
-use Rattle.dsm_parse.proofs.Repeats.{all_of}
+use Rattle.dsm_syntax.specs.Reading.{gathered}
+use Rattle.dsm_laws_grammar.specs.Statements as reader
+use Rattle.dsm_laws_grammar.proofs.Repeats.{all_of}
 use Rattle.dsm_parse.proofs.statement.+statement.Given as goal
 
 abbrev pub decreases-statement : goal.decreases-statement

@@ -1,12 +1,13 @@
 use Rattle.std.proofs.Common.{◌≡◌, ◌+◌, ◌∙◌, List, [], ◌∷◌, ◌++◌, sym, ap, subst, map, length}
 use Rattle.std.specs.List.{All}
 use Rattle.std.proofs.lemmas.List.{map-append, length-map, length-append}
+use Rattle.dsm_base.specs.Family.{family_of}
+use Rattle.dsm_base.proofs.Families.{family_of_push, all_push}
 use Rattle.dsm_check.specs.CheckedViews.{program_of}
-use Rattle.dsm_check.specs.SemanticsWithin.{IsStateWithin}
+use Rattle.dsm_semantics.specs.Programs.{first_states}
 use Rattle.dsm_interpreter.specs.declared.thread.PlainThread.{PlainThread}
 use Rattle.dsm_interpreter.specs.Threads.{state_of}
-use Rattle.dsm_plain.specs.Machine.{extent_in, family_of, first_states, IsReady}
-use Rattle.dsm_plain.proofs.Families.{family_of_push, all_push}
+use Rattle.dsm_plain.specs.Machine.{IsThreadOf}
 use Rattle.dsm_plain.proofs.start.start_threads.Goals as goal
 
 pub loop-me-preserved : goal.loop-me-preserved
@@ -23,8 +24,6 @@ loop-me-preserved c =
       count = ap length pushed ∙ length-append threads (thread ∷ []) ∙ ap (λ n. n + 1) before.count;
       states = λ i. ap (λ items. family_of first (map state_of items) i) pushed ∙ ap (λ states. family_of first states i) (map-append state_of threads (thread ∷ []))
           ∙ family_of_push first (map state_of threads) (state_of thread) is_next before.states i;
-      ready = let P : List PlainThread → Type 0 = All (IsReady program.functions) in
-          subst P (sym pushed) (all_push (IsReady program.functions) threads thread before.ready c.in_ok-start_thread.ensures.ready);
-      within = let P : List PlainThread → Type 0 = All (λ thread. IsStateWithin (extent_in program) (state_of thread)) in
-          subst P (sym pushed) (all_push (λ thread. IsStateWithin (extent_in program) (state_of thread)) threads thread before.within c.in_ok-start_thread.ensures.within);
+      ready = let P : List PlainThread → Type 0 = All (IsThreadOf program) in
+          subst P (sym pushed) (all_push (IsThreadOf program) threads thread before.ready c.in_ok-start_thread.ensures.ready);
     }

@@ -1,6 +1,6 @@
 use Rattle.std.proofs.Common.{true, ◌+◌, List, Ok, drop, sym, ap, ◌∙◌, subst}
 use Rattle.std.proofs.lemmas.List.{drop_all}
-use Rattle.dsm_syntax.specs.declared.tree.Expr.{Expr}
+use Rattle.dsm_syntax.specs.declared.tree.Expression.{Expression as TreeExpression}
 use Rattle.dsm_syntax.specs.Tree as t
 use Rattle.dsm_syntax.specs.Views as tree
 use Rattle.dsm_syntax.proofs.Shown as shown
@@ -20,7 +20,7 @@ arguments-loop-argument-preserved t c =
     let i = c.loop-argument.argument-index in
     let made = c.loop-argument.made.items in
     c.loop-argument.invariant
-    ∙ ap (λ (rest : List Expr). behind made (resolve_all names (tree.views rest))) (drop-next all i c.argument-item.result c.loop-argument-test.true c.argument-item.is)
+    ∙ ap (λ (rest : List TreeExpression). behind made (resolve_all names (tree.views rest))) (drop-next all i c.argument-item.result c.loop-argument-test.true c.argument-item.is)
     ∙ behind-next names made c.argument-item.result (drop (i + 1) all) c.in_ok-expression.field-0 c.in_ok-expression.ensures
     ∙ ap (λ (now : List Expression). behind now (resolve_all names (tree.views (drop (i + 1) all)))) (sym c.in_ok-push.ensures.items)
 
@@ -29,7 +29,7 @@ arguments-returns t c =
     let names = (scope_of c.args.self.now).names in
     let made = c.loop-argument.made.items in
     c.loop-argument.invariant
-    ∙ ap (λ (rest : List Expr). behind made (resolve_all names (tree.views rest))) (drop_all _ _ c.loop-argument-test.false)
+    ∙ ap (λ (rest : List TreeExpression). behind made (resolve_all names (tree.views rest))) (drop_all _ _ c.loop-argument-test.false)
     ∙ behind-end made
 
 pub call-returns : goal.call-returns
@@ -42,6 +42,6 @@ pub expression-returns-in-Call : goal.expression-returns-in-Call
 expression-returns-in-Call m c =
     let names = (scope_of c.args.self.now).names in
     let P : t.Expression → Type 0 = λ e. Gives view c.call.result (resolve names e) in
-    let Q : List Expr → Type 0 = λ all. Gives view c.call.result (resolve_call true names c.in-Call.name (tree.views all)) in
+    let Q : List TreeExpression → Type 0 = λ all. Gives view c.call.result (resolve_call true names c.in-Call.name (tree.views all)) in
     subst P (sym (ap tree.view c.in-Call.is ∙ shown.view_call c.in-Call.name c.in-Call.arguments))
     (subst Q c.deref-in-Call.ensures.value c.call.ensures)

@@ -1,6 +1,6 @@
 use Rattle.std.proofs.Common.{◌+◌, List, Ok, drop, sym, ap, ◌∙◌, subst, arith}
 use Rattle.std.proofs.lemmas.List.{drop_all}
-use Rattle.dsm_syntax.specs.declared.tree.Stmt.{Stmt}
+use Rattle.dsm_syntax.specs.declared.tree.Statement.{Statement as TreeStatement}
 use Rattle.dsm_syntax.specs.Tree as t
 use Rattle.dsm_syntax.specs.Views as tree
 use Rattle.dsm_syntax.proofs.Shown as shown
@@ -27,7 +27,7 @@ pub statement-returns-in-Block-clause-value : goal.statement-returns-in-Block-cl
 statement-returns-in-Block-clause-value m c =
     let check = λ (s : t.Statement). resolve_statement (around_of c.args.around) c.args.looped (scope_of c.args.self.now) s in
     let P : t.Statement → Type 0 = λ s. Gives (λ made. (view_statement made, scope_of c.block.new.self)) c.block.result (check s) in
-    let Q : List Stmt → Type 0 = λ all. P (t.block (tree.view_statements all)) in
+    let Q : List TreeStatement → Type 0 = λ all. P (t.block (tree.view_statements all)) in
     subst P (sym (ap tree.view_statement c.in-Block.is ∙ shown.view_block c.in-Block.statements)) (subst Q c.deref.ensures.value c.block.ensures.value)
 
 pub statements-loop-statement-preserved : goal.statements-loop-statement-preserved
@@ -43,7 +43,7 @@ statements-loop-statement-preserved m c =
       omega (arith, c.in_ok-statement.ensures.blocks, invariant.0),
       c.in_ok-statement.ensures.blocks ∙ invariant.1,
       invariant.2
-          ∙ ap (λ (rest : List Stmt). trailing made (resolve_statements around looped before (tree.view_statements rest))) (drop-next all i c.statement-item.result c.loop-statement-test.true c.statement-item.is)
+          ∙ ap (λ (rest : List TreeStatement). trailing made (resolve_statements around looped before (tree.view_statements rest))) (drop-next all i c.statement-item.result c.loop-statement-test.true c.statement-item.is)
           ∙ trailing-next around looped made before c.statement-item.result (drop (i + 1) all) c.in_ok-statement.field-0 next c.in_ok-statement.ensures.value
           ∙ ap (λ (now : List Statement). trailing now (resolve_statements around looped next (tree.view_statements (drop (i + 1) all)))) (sym c.in_ok-push.ensures.items),
     )
@@ -52,5 +52,5 @@ pub statements-returns-clause-value : goal.statements-returns-clause-value
 statements-returns-clause-value m c =
     let scope = scope_of c.loop-statement.self in
     c.loop-statement.invariant.2
-    ∙ ap (λ (rest : List Stmt). trailing c.loop-statement.made.items (resolve_statements (around_of c.args.around) c.args.looped scope (tree.view_statements rest))) (drop_all _ _ c.loop-statement-test.false)
+    ∙ ap (λ (rest : List TreeStatement). trailing c.loop-statement.made.items (resolve_statements (around_of c.args.around) c.args.looped scope (tree.view_statements rest))) (drop_all _ _ c.loop-statement-test.false)
     ∙ trailing-end c.loop-statement.made.items scope

@@ -1,5 +1,5 @@
 use Rattle.std.proofs.Common.{◌≡◌, length, map}
-use Rattle.dsm_check.specs.Semantics.{after_body}
+use Rattle.dsm_semantics.specs.Semantics.{after_body}
 use Rattle.dsm_interpreter.specs.Threads.{item_of}
 use Rattle.dsm_interpreter.proofs.frame.Frame.leave_body.Given as goal
 

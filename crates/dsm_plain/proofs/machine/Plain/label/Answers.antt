@@ -1,12 +1,18 @@
-use Rattle.std.proofs.Common.{◌<◌, sym, subst}
-use Rattle.dsm_check.specs.SemanticsWithin.{extent_of, IsStateWithin}
-use Rattle.dsm_interpreter.specs.Threads.{state_of}
-use Rattle.dsm_plain.proofs.States.{found_has}
+use Rattle.std.proofs.Common.{◌<◌, ◌∙◌, sym, subst}
+use Rattle.dsm_check.specs.CheckedViews.{program_of}
+use Rattle.dsm_semantics.specs.Within.{extent_in, NamesWithin}
+use Rattle.dsm_plain.proofs.Completions.{want_is_within}
 use Rattle.dsm_plain.proofs.machine.Plain.label.Goals as goal
 
-pub returns-in_ok-text-in-Line-clause-line : goal.returns-in_ok-text-in-Line-clause-line
-returns-in_ok-text-in-Line-clause-line c =
+-- a cell that a thread wants is one of the setup
+pub piece_of-piece-requires-clause-within : goal.piece_of-piece-requires-clause-within
+piece_of-piece-requires-clause-within c =
     let plain = c.args.self.now in
-    let within = subst (λ n. c.args.proc.0 < n) (sym c.requires.whole.threads) c.requires.processor in
-    c.in_ok-text-in-Line.ensures.line (extent_of plain.setup)
-    (found_has (λ thread. IsStateWithin (extent_of plain.setup) (state_of thread)) plain.threads.items c.from-in-Line.result c.args.proc.0 c.index.result.now c.index.ensures c.from-in-Line.ensures within c.requires.whole.within)
+    subst (λ n. c.in-Load.cell.0 < n) (sym c.requires.whole.is_setup.cells)
+    (subst (NamesWithin (extent_in (program_of plain.checked.now))) (sym c.requires.want ∙ c.in-Load.is) (want_is_within plain c.requires.whole c.args.proc.0 c.requires.processor))
+
+pub piece_of-piece-requires-in-Store-clause-within : goal.piece_of-piece-requires-in-Store-clause-within
+piece_of-piece-requires-in-Store-clause-within c =
+    let plain = c.args.self.now in
+    subst (λ n. c.in-Store.cell.0 < n) (sym c.requires.whole.is_setup.cells)
+    (subst (NamesWithin (extent_in (program_of plain.checked.now))) (sym c.requires.want ∙ c.in-Store.is) (want_is_within plain c.requires.whole c.args.proc.0 c.requires.processor))

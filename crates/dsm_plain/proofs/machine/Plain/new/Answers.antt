@@ -1,7 +1,8 @@
 use Rattle.std.proofs.Common.{◌∙◌, ap, map}
+use Rattle.dsm_base.specs.Family.{family_of}
 use Rattle.dsm_check.specs.CheckedViews.{program_of}
+use Rattle.dsm_semantics.specs.Programs.{first_states}
 use Rattle.dsm_interpreter.specs.Threads.{state_of}
-use Rattle.dsm_plain.specs.Machine.{family_of, first_states}
 use Rattle.dsm_plain.proofs.machine.Plain.new.Goals as goal
 
 pub returns-clause-machine : goal.returns-clause-machine
@@ -12,7 +13,7 @@ returns-clause-machine c =
       threads = threads i;
       memory = c.in_ok-memory.ensures.zeros i;
       versions = c.in_ok-versions.ensures.zeros i;
-      held = λ p. c.in_ok-standings.ensures.held p i;
-      arrived = λ p. c.in_ok-standings.ensures.arrived p i;
-      crossed = λ p. c.in_ok-standings.ensures.crossed p i;
+      held = λ p. c.in_ok-rights.ensures.held p i;
+      arrived = λ p. c.in_ok-rights.ensures.arrived p i;
+      crossed = λ p. c.in_ok-rights.ensures.crossed p i;
     }

@@ -10,4 +10,4 @@ push-requires c =
 pub go_on-requires : goal.go_on-requires
 go_on-requires c =
     statement_told c.args.self.now.state c.args.self.now.told c.in-Some.want c.args.self.now.next (sym c.take.ensures.value ∙ c.in-Some.is)
-    c.requires c.in_default-want.not-Load c.in_default-want.not-End
+    c.requires c.in_default-want.not-Load c.in_default-want.not-End c.in_default-want.not-Stop

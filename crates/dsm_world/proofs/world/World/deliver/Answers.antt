@@ -8,24 +8,23 @@ use Rattle.dsm_world.proofs.world.World.deliver.Goals as goal
 
 pub returns-clause-records : goal.returns-clause-records
 returns-clause-records g c =
-    let state = g.M.Made.Task.state in
+    let kind = g.M.Made.Task.kind in
     let first = g.M.TaskMaker.first in
-    let told = shown state first c.args.self.now in
-    let mid = shown state first c.take_oldest.new.self in
-    let after = shown state first c.handle.new.self in
-    let records = delivery_records_are (setup_of c.args.self.now) g.M.Made.Task.semantics told mid after c.args.from.0 c.args.to.0 c.in-Some.letter (mid.under_way c.args.from.0 c.args.to.0) c.in_ok-sends.sends c.in-Some.ensures.letter c.in-Some.ensures.named c.in-Some.ensures.shown c.in_ok-sends.ensures.shown c.in_ok-sends.ensures.sends in
+    let told = shown kind first c.args.self.now in
+    let mid = shown kind first c.take_oldest.new.self in
+    let after = shown kind first c.handle.new.self in
+    let records = delivery_records_are (setup_of c.args.self.now) g.M.Made.Task.kind.semantics told mid after c.args.from.0 c.args.to.0 c.in-Some.letter (mid.under_way c.args.from.0 c.args.to.0) c.in_ok-sends.sends c.in-Some.ensures.letter c.in-Some.ensures.named c.in-Some.ensures.shown c.in_ok-sends.ensures.shown c.in_ok-sends.ensures.sends in
     c.in_ok-post_all.ensures.records
     ∙ ap (λ before. before ++ sent_records after.sent c.in_ok-sends.sends) (c.in_ok-push.ensures.ok ∙ ap (λ before. before ++ Rec.Delivered c.in-Some.letter.number ∷ []) c.new-records.ensures)
     ∙ records
 
 pub returns-clause-shown : goal.returns-clause-shown
 returns-clause-shown g c =
-    let state = g.M.Made.Task.state in
+    let kind = g.M.Made.Task.kind in
     let first = g.M.TaskMaker.first in
-    let threads = g.M.Made.Task.semantics in
-    let told = shown state first c.args.self.now in
-    let mid = shown state first c.take_oldest.new.self in
-    let after = shown state first c.handle.new.self in
+    let told = shown kind first c.args.self.now in
+    let mid = shown kind first c.take_oldest.new.self in
+    let after = shown kind first c.handle.new.self in
     c.in_ok-post_all.ensures.shown
-    ∙ ap (λ setup. unnumbered (told_records setup threads after (sent_records after.sent c.in_ok-sends.sends))) (c.in_ok-sends.ensures.same.setup ∙ c.in-Some.ensures.same.setup)
-    ∙ delivery_told (setup_of c.args.self.now) threads told mid after c.args.from.0 c.args.to.0 c.in-Some.letter (mid.under_way c.args.from.0 c.args.to.0) c.in_ok-sends.sends c.in-Some.ensures.letter c.in-Some.ensures.named c.in-Some.ensures.shown c.in_ok-sends.ensures.shown c.in_ok-sends.ensures.sends
+    ∙ ap (λ setup. unnumbered (told_records setup kind.semantics after (sent_records after.sent c.in_ok-sends.sends))) (c.in_ok-sends.ensures.same.setup ∙ c.in-Some.ensures.same.setup)
+    ∙ delivery_told (setup_of c.args.self.now) kind.semantics told mid after c.args.from.0 c.args.to.0 c.in-Some.letter (mid.under_way c.args.from.0 c.args.to.0) c.in_ok-sends.sends c.in-Some.ensures.letter c.in-Some.ensures.named c.in-Some.ensures.shown c.in_ok-sends.ensures.shown c.in_ok-sends.ensures.sends

@@ -15,7 +15,7 @@ loop-sends-preserved g c =
     let sent = ap (λ t. t.sent) c.in_ok-post.ensures.shown in
     record {
       records = sent_more loop.records c.push.new.self c.in_ok-post.field-0 loop.self.sent c.post.new.self.sent sends c.remove-msg.new.self msg are sent c.in_ok-post.ensures.sent c.in_ok-push.ensures.ok ∙ loop.invariant.records;
-      shown = told_more setup g.M.Made.Task.semantics (shown g.M.Made.Task.state g.M.TaskMaker.first loop.self) (shown g.M.Made.Task.state g.M.TaskMaker.first c.post.new.self) loop.self.sent c.post.new.self.sent sends c.remove-msg.new.self msg are sent c.in_ok-post.ensures.shown ∙ loop.invariant.shown;
+      shown = told_more setup g.M.Made.Task.kind.semantics (shown g.M.Made.Task.kind g.M.TaskMaker.first loop.self) (shown g.M.Made.Task.kind g.M.TaskMaker.first c.post.new.self) loop.self.sent c.post.new.self.sent sends c.remove-msg.new.self msg are sent c.in_ok-post.ensures.shown ∙ loop.invariant.shown;
       posted =
           let all : All (IsPosted (setup_of loop.self)) (msg ∷ c.remove-msg.new.self) = subst (All (IsPosted (setup_of loop.self))) are loop.invariant.posted in
           rw c.in_ok-post.ensures.same.setup (All-tail (IsPosted (setup_of loop.self)) msg c.remove-msg.new.self all);

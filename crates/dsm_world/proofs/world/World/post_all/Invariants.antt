@@ -10,9 +10,9 @@ abbrev pub invariant-loop-sends : goal.invariant-loop-sends
 invariant-loop-sends g l =
     record {
       records : l.records ++ sent_records l.self.sent l.sends ≡ l.initial.records ++ sent_records l.initial.self.sent l.fn.sends;
-      shown : unnumbered (told_records (setup_of l.initial.self) g.M.Made.Task.semantics (shown g.M.Made.Task.state g.M.TaskMaker.first l.self) (sent_records l.self.sent l.sends)) ≡ unnumbered (told_records (setup_of l.initial.self) g.M.Made.Task.semantics (shown g.M.Made.Task.state g.M.TaskMaker.first l.initial.self) (sent_records l.initial.self.sent l.fn.sends));
+      shown : unnumbered (told_records (setup_of l.initial.self) g.M.Made.Task.kind.semantics (shown g.M.Made.Task.kind g.M.TaskMaker.first l.self) (sent_records l.self.sent l.sends)) ≡ unnumbered (told_records (setup_of l.initial.self) g.M.Made.Task.kind.semantics (shown g.M.Made.Task.kind g.M.TaskMaker.first l.initial.self) (sent_records l.initial.self.sent l.fn.sends));
       posted : All (IsPosted (setup_of l.self)) l.sends;
-      shape : IsShaped g.M.Made.Task.state g.M.Made.Task.semantics l.self;
+      shape : IsShaped g.M.Made.Task.kind l.self;
       same : IsSameWorld l.initial.self l.self;
     }
 

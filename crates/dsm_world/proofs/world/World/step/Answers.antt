@@ -7,11 +7,10 @@ use Rattle.dsm_world.proofs.world.World.step.Goals as goal
 
 pub returns-clause-shown : goal.returns-clause-shown
 returns-clause-shown g c =
-    let state = g.M.Made.Task.state in
+    let kind = g.M.Made.Task.kind in
     let first = g.M.TaskMaker.first in
-    let threads = g.M.Made.Task.semantics in
     let world = c.args.self.now in
-    let mid = shown state first c.turn.new.self in
+    let mid = shown kind first c.turn.new.self in
     c.in_ok-post_all.ensures.shown
-    ∙ ap (λ setup. unnumbered (told_records setup threads mid (sent_records mid.sent c.in-Some.field-0.sends))) c.turn.ensures.same.setup
-    ∙ step_told (setup_of world) threads (shown state first world) mid c.args.proc.0 (turn_of state first threads world c.args.proc.0) c.in-Some.field-0 (sym c.in-Some.is ∙ c.in_ok-turn.ensures.stepped) c.in_ok-turn.ensures.shown
+    ∙ ap (λ setup. unnumbered (told_records setup kind.semantics mid (sent_records mid.sent c.in-Some.field-0.sends))) c.turn.ensures.same.setup
+    ∙ step_told (setup_of world) kind.semantics (shown kind first world) mid c.args.proc.0 (turn_of kind first world c.args.proc.0) c.in-Some.field-0 (sym c.in-Some.is ∙ c.in_ok-turn.ensures.stepped) c.in_ok-turn.ensures.shown

@@ -11,7 +11,7 @@ returns-clause-named g c =
 
 pub returns-clause-shown : goal.returns-clause-shown
 returns-clause-shown g c =
-    λ i. record (shown g.M.Made.Task.state g.M.TaskMaker.first c.args.self.now) {
+    λ i. record (shown g.M.Made.Task.kind g.M.TaskMaker.first c.args.self.now) {
       under_way = under_way_replaced (setup_of c.args.self.now) c.args.self.now.channels c.pop.new.self c.args.from.0 c.args.to.0 c.requires.from c.requires.to c.requires.shape.channels c.pop.ensures.others i;
     }
 

@@ -1,0 +1,5 @@
+pub mod Reading
+pub mod Rows
+pub mod Steps
+pub mod Bridge
+pub mod Top

@@ -1,0 +1,3 @@
+pub mod Commands
+pub mod InCode
+pub mod Parser

@@ -1,4 +1,0 @@
-pub mod Lexemes
-pub mod Reading
-pub mod Tokens
-pub mod Gives

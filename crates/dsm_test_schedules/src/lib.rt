@@ -1,0 +1,5 @@
+//! Schedules and lists of picks from their text on.
+#![tactic(auto)]
+
+#[cfg(test)]
+mod tests;

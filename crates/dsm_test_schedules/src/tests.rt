@@ -1,0 +1,5 @@
+//! What the clauses mean, by examples.
+
+mod picks;
+mod rows;
+mod schedules;

@@ -1,3 +1,0 @@
-pub mod WordsOf
-pub mod FirstLines
-pub mod Entries
