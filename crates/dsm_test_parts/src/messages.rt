@@ -109,7 +109,13 @@ const REFUSED: &[(&[u8], MsgErr)] = &[
         ],
         MsgErr::BadField { place: 27 },
     ),
-    // A whole message with more behind it.
+    // The request with one byte more, and a note with two.
+    (
+        &[
+            1, 1, 0, 0, 0, 0, 1, 0, 0, 0, 0, 0, 0, 0, 0, 0, 0, 0, 0, 0, 0, 1, 0, 0, 0, 0, 0,
+        ],
+        MsgErr::Rest { count: 1 },
+    ),
     (
         &[
             6, 0, 1, 0, 0, 0, 5, 0, 0, 0, 0, 0, 0, 0, 0, 0, 0, 0, 0, 6, 0,
@@ -139,7 +145,7 @@ fn a_request_has_its_26_bytes(rt: HostRuntime) -> Result<(), Fail> {
     };
     let mut out = Vec::new(rt.alloc());
     write_msg(&msg, &mut out)?;
-    assert_eq!(rt; out.as_slice(), &REQUEST);
+    assert_eq!(rt; out.as_slice(), REQUEST.as_slice());
     Ok(())
 }
 
