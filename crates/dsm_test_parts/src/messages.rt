@@ -102,6 +102,41 @@ const REFUSED: &[(&[u8], MsgErr)] = &[
         ],
         MsgErr::BadField { place: 32 },
     ),
+    // A line of nine values, and a line with the number of the one before.
+    (
+        &[
+            4, 2, 1, 0, 0, 0, 4, 0, 0, 0, 0, 0, 0, 0, 0, 0, 0, 0, 0, 0, 0, 0, 0, 0, 0, 0, 0, 1, 0,
+            0, 0, 0, 9,
+        ],
+        MsgErr::BadField { place: 32 },
+    ),
+    (
+        &[
+            4, 2, 1, 0, 0, 0, 4, 0, 0, 0, 0, 0, 0, 0, 0, 0, 0, 0, 0, 0, 0, 0, 0, 0, 0, 0, 0, 2, 0,
+            0, 0, 5, 1, 0, 0, 0, 0, 0, 0, 0, 0, 0, 0, 0, 5,
+        ],
+        MsgErr::BadField { place: 41 },
+    ),
+    // Two bodies of one turn in a resync.
+    (
+        &[
+            8, 1, 0, 0, 0, 0, 5, 0, 0, 0, 5, 0, 0, 0, 0, 0, 0, 0, 0, 0, 0, 0, 2, 0, 0, 0, 1, 1, 0,
+            0, 0, 0, 0, 0, 0, 0, 0, 0, 1,
+        ],
+        MsgErr::BadField { place: 35 },
+    ),
+    // Counts of records and of lines that no memory could hold: the bytes end first.
+    (
+        &[6, 1, 0, 0, 0, 0, 9, 0, 0, 0, 0, 255, 255, 255, 255],
+        MsgErr::Short,
+    ),
+    (
+        &[
+            4, 2, 1, 0, 0, 0, 4, 0, 0, 0, 0, 0, 0, 0, 0, 0, 0, 0, 0, 0, 0, 0, 0, 0, 255, 255, 255,
+            255,
+        ],
+        MsgErr::Short,
+    ),
     // A kind that a resync doesn't bring again.
     (
         &[
