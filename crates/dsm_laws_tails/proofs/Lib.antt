@@ -5,4 +5,5 @@ pub mod Fronts
 pub mod Histories
 pub mod Tails
 pub mod Copies
+pub mod NewerAlike
 mod Example
