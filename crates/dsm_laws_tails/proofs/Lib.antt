@@ -7,3 +7,4 @@ pub mod Tails
 pub mod Copies
 pub mod NewerAlike
 mod Example
+mod Pairs
