@@ -7,4 +7,6 @@ pub mod Tails
 pub mod Copies
 pub mod NewerAlike
 mod Example
+mod Worked
 mod Pairs
+mod Premises

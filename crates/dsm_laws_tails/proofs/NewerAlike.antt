@@ -5,10 +5,9 @@ use Rattle.std.proofs.lemmas.Bool.{cases_Bool, cases_eq}
 use Rattle.dsm_base.specs.declared.names.Mode.{Mode}
 use Rattle.dsm_base.specs.declared.label.Label.{Label}
 use Rattle.dsm_base.specs.declared.setup.Setup.{Setup}
-use Rattle.dsm_base.specs.Access.{piece_of, is_exclusive}
+use Rattle.dsm_base.specs.Access.{is_exclusive}
 use Rattle.dsm_base.specs.Threads.{Semantics}
 use Rattle.dsm_base.specs.Plain.{Turn, IsPlainRun, after_run, labels_of, plain_turn}
-use Rattle.dsm_laws_runs.specs.Pieces.{is_of_lock}
 use Rattle.dsm_laws_runs.specs.OwnPart.{own_versions_of}
 use Rattle.dsm_laws_runs.specs.Newer.{stores_to, is_newer}
 use Rattle.dsm_laws_runs.proofs.Each.{for_each}

@@ -1,30 +1,15 @@
 -- Worked pairs of neighbouring turns, one of each kind, computed by the definitions. Beside them stand those of the laws of runs: both holds exclusive or both shared, and an arrival and a crossing, bound and free.
-use Rattle.std.specs.Prelude.{◌≡◌, ℕ, pos, true, if◌then◌else◌, ◌==◌, List, [], ◌∷◌, Some, None}
+use Rattle.std.specs.Prelude.{◌≡◌, ℕ, pos, true, List, [], ◌∷◌, None}
 use Rattle.std.proofs.Common.{refl}
-use Rattle.dsm_base.specs.declared.names.Cell.{Cell}
-use Rattle.dsm_base.specs.declared.names.Lock.{Lock}
-use Rattle.dsm_base.specs.declared.names.Bar.{Bar}
 use Rattle.dsm_base.specs.declared.names.Mode.{Mode}
 use Rattle.dsm_base.specs.declared.names.Fault.{Fault}
 use Rattle.dsm_base.specs.declared.label.Label.{Label}
 use Rattle.dsm_base.specs.declared.label.Want.{Want}
 use Rattle.dsm_base.specs.declared.setup.Object.{Object}
 use Rattle.dsm_base.specs.declared.setup.Setup.{Setup}
-use Rattle.dsm_base.specs.Threads.{Semantics}
 use Rattle.dsm_base.specs.Plain.{Turn, after_run, plain_turn}
 use Rattle.dsm_laws_runs.specs.Swap.{rests_on, clashes, IsFree}
-
--- a thread is a list of what it is still to do
-abbrev next_want : List Want → Want
-next_want [] = Want.Over
-next_want (want ∷ others) = want
-
-abbrev rest : List Want → List Want
-rest [] = []
-rest (want ∷ others) = others
-
-abbrev threads : Semantics (List Want)
-threads = record { want = next_want; text = λ state. []; after = λ state label. rest state }
+use Rattle.dsm_laws_tails.proofs.Worked.{threads, the_lock, the_bar, the_cell, they_do, by, AreMade}
 
 abbrev setup : Setup
 setup = record {
@@ -36,36 +21,15 @@ setup = record {
   kept = refl;
 }
 
-abbrev the_lock : Lock
-the_lock = record { 0 = 0 }
-
-abbrev the_bar : Bar
-the_bar = record { 0 = 0 }
-
-abbrev the_cell : Cell
-the_cell = record { 0 = 0 }
-
--- what 0 and 1 are to do
-abbrev they_do : List Want → List Want → ℕ → List Want
-they_do zero one p = if p == 0 then zero else one
-
-abbrev by : ℕ → Label → Turn
-by p label = record { proc = p; label = label }
-
--- each turn is the one that its processor makes
-abbrev AreMade : (ℕ → List Want) → List Turn → Type 0
-AreMade first [] = Unit {0}
-AreMade first (turn ∷ before) = AreMade first before × (plain_turn setup threads (after_run first threads before) turn.proc ≡ Some turn.label)
-
 -- the later turn doesn't rest on the earlier one, and both orders are made
 abbrev MayChange : (ℕ → List Want) → List Turn → Turn → Turn → Type 0
-MayChange first before earlier later = IsFree first threads before earlier later × AreMade first (later ∷ earlier ∷ before) × AreMade first (earlier ∷ later ∷ before)
+MayChange first before earlier later = IsFree first threads before earlier later × AreMade setup first (later ∷ earlier ∷ before) × AreMade setup first (earlier ∷ later ∷ before)
 
 -- the later turn rests on the earlier one, and can't be made without it
 abbrev IsBound : (ℕ → List Want) → List Turn → Turn → Turn → Type 0
 IsBound first before earlier later =
     (rests_on ((after_run first threads before).held earlier.proc) ((after_run first threads before).arrived earlier.proc) earlier.label later.label ≡ true)
-    × AreMade first (later ∷ earlier ∷ before)
+    × AreMade setup first (later ∷ earlier ∷ before)
     × (plain_turn setup threads (after_run first threads before) later.proc ≡ None)
 
 -- Locks.
@@ -108,7 +72,7 @@ load_load = (refl, ((((((tt, refl), refl), refl), refl), refl), refl), ((((((tt,
 -- a load after another's store of the same cell would clash; in its place the thread stops, as it holds no lock
 store_then_load :
     (clashes (Label.Store the_cell (pos 1)) (Label.Load the_cell (pos 1)) ≡ true)
-    × AreMade (they_do (Want.Ask the_lock Mode.Excl 1 ∷ Want.Take the_lock Mode.Excl ∷ Want.Store the_cell (pos 1) 1 ∷ []) (Want.Load the_cell 7 ∷ []))
+    × AreMade setup (they_do (Want.Ask the_lock Mode.Excl 1 ∷ Want.Take the_lock Mode.Excl ∷ Want.Store the_cell (pos 1) 1 ∷ []) (Want.Load the_cell 7 ∷ []))
     (by 1 (Label.Stop Fault.Unbound 7) ∷ by 0 (Label.Store the_cell (pos 1)) ∷ by 0 (Label.Take the_lock Mode.Excl 0) ∷ by 0 (Label.Ask the_lock Mode.Excl) ∷ [])
 store_then_load = (refl, ((((tt, refl), refl), refl), refl))
 
