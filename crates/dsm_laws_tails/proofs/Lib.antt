@@ -5,4 +5,8 @@ pub mod Fronts
 pub mod Histories
 pub mod Tails
 pub mod Copies
+pub mod NewerAlike
 mod Example
+mod Worked
+mod Pairs
+mod Premises

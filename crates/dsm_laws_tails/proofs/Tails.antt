@@ -14,10 +14,10 @@ use Rattle.dsm_laws_tails.proofs.Fronts.{past_upto}
 use Rattle.dsm_laws_tails.proofs.Histories.{older_run, settles, settled_like, last_like, loses, loses_versions}
 
 -- the tails without one
-abbrev tails_but : (ℕ → List Label) → ℕ → ℕ → List Label
+abbrev pub tails_but : (ℕ → List Label) → ℕ → ℕ → List Label
 tails_but tails p q = if q == p then [] else tails q
 
-but_one : (tails : ℕ → List Label) (p : ℕ) → AreWith tails p [] (tails_but tails p)
+pub but_one : (tails : ℕ → List Label) (p : ℕ) → AreWith tails p [] (tails_but tails p)
 but_one tails p = record { own = grind arith; same = λ q ne. grind arith }
 
 module _ {S : Type 0} (setup : Setup) (first : ℕ → S) (threads : Semantics S) (settled : List Turn) (tails : ℕ → List Label) (is : IsHistory setup first threads settled tails) (p : ℕ) where

@@ -9,6 +9,7 @@ ghost use Rattle.dsm_base.specs.Plain.{Turn, IsPlainRun, IsPlainTurn, after_run,
 ghost use Rattle.dsm_laws_runs.specs.Versions.{AllAskFirst, SameAt, memory_at};
 ghost use Rattle.dsm_laws_runs.specs.Swap.{IsRunLike};
 ghost use Rattle.dsm_laws_runs.specs.Copies.{OwnTurn, HasCopies};
+ghost use Rattle.dsm_laws_runs.specs.Newer.{is_newer};
 ghost use Rattle.dsm_laws_tails.specs.Shuffles.{IsShuffle, AreApart, AreIndependent, CanShuffle};
 ghost use Rattle.dsm_laws_tails.specs.Fronts.{upto, past, turns_by, AreWith};
 ghost use Rattle.dsm_laws_tails.specs.Histories.{whole_of, IsHistory, IsHistoryLike};
@@ -125,4 +126,30 @@ pub fn copies_left<T: Task>()
         length newest ≡ length (past k (tails p)) →
         HasCopies setup first T.kind.semantics (whole_of setup settled tails) p (newest ++ oldest) →
         HasCopies setup first T.kind.semantics (whole_of setup settled others) p oldest }
+{}
+
+/// Which lines of a lock are newer than a version, up to another, is the same in all plain runs in
+/// which each processor makes the same turns. Once the later version is made it is the same with
+/// one tail alone, and where turns are lost.
+pub fn newer_alike<T: Task>()
+    ensures alike { (line_at : ℕ → ℕ) (setup : Setup) (first : ℕ → T.State) (run other : List Turn) →
+        IsPlainRun setup first T.kind.semantics run → IsPlainRun setup first T.kind.semantics other →
+        ((p : ℕ) → labels_of p run ≡ labels_of p other) → (lock from to line : ℕ) →
+        is_newer line_at setup first T.kind.semantics run lock from to line ≡ is_newer line_at setup
+        first T.kind.semantics other lock from to line }
+    ensures alone { (line_at : ℕ → ℕ) (setup : Setup) (first : ℕ → T.State) (settled : List Turn)
+        (tails : ℕ → List Label) → IsHistory setup first T.kind.semantics settled tails →
+        (p lock from to line : ℕ) →
+        to ≤ (after_run first T.kind.semantics (turns_by p (tails p) ++ settled)).versions lock →
+        is_newer line_at setup first T.kind.semantics (turns_by p (tails p) ++ settled) lock from to
+        line ≡ is_newer line_at setup first T.kind.semantics (whole_of setup settled tails) lock
+        from to line }
+    ensures left { (line_at : ℕ → ℕ) (setup : Setup) (first : ℕ → T.State) (settled : List Turn)
+        (tails : ℕ → List Label) → IsHistory setup first T.kind.semantics settled tails →
+        (p k : ℕ) (others : ℕ → List Label) → AreWith tails p (upto k (tails p)) others →
+        (lock from to line : ℕ) →
+        to ≤ (after_run first T.kind.semantics (whole_of setup settled others)).versions lock →
+        is_newer line_at setup first T.kind.semantics (whole_of setup settled others) lock from to
+        line ≡ is_newer line_at setup first T.kind.semantics (whole_of setup settled tails) lock
+        from to line }
 {}
