@@ -121,7 +121,7 @@ effect_of setup me s from turn (Body.Grant lock mode take version lines) =
     only (record s {
       mail = record s.mail {
         grants = s.mail.grants
-          ++ record { turn = take; lock = lock; mode = mode; version = version; lines = lines } ∷ [];
+            ++ record { turn = take; lock = lock; mode = mode; version = version; lines = lines } ∷ [];
       };
     }) []
 effect_of setup me s from turn _ = only s []
@@ -135,7 +135,7 @@ effect_of_body setup me s from turn body =
 abbrev pub effect_of_message : {S : Type 0} → Setup → ℕ → Processor S → Msg → Effect S
 effect_of_message setup me s msg =
     record (effect_of_body setup me (with_carry s msg.from.0 msg.carry) msg.from.0 msg.carry.turn msg.body)
-      { carried = msg.carry.lines }
+    { carried = msg.carry.lines }
 
 -- Turns.
 
@@ -180,4 +180,4 @@ processor_after setup threads s turn = record s {
 abbrev pub effect_of_turn : {S : Type 0} → Setup → Semantics S → ℕ → Processor S → OwnTurn → Effect S
 effect_of_turn setup threads p s turn =
     record (effect_of_telling setup p (processor_after setup threads s turn) (body_of setup s.own turn.label))
-      { outs = printed_by (s.own.turns + 1) (line_text turn.label) }
+    { outs = printed_by (s.own.turns + 1) (line_text turn.label) }

@@ -1,5 +1,5 @@
 -- How a home grants a lock.
-use Rattle.std.specs.Prelude.{ℕ, Bool, ◌==◌, not, if◌then◌else◌, nat_lt, List, [], ◌∷◌, ◌++◌, map, filter}
+use Rattle.std.specs.Prelude.{ℕ, Bool, ◌==◌, not, nat_lt, List, ◌++◌, map, filter}
 use Rattle.dsm_base.specs.declared.names.Lock.{Lock}
 use Rattle.dsm_base.specs.declared.setup.Object.{Object}
 use Rattle.dsm_base.specs.declared.setup.Setup.{Setup}
@@ -33,7 +33,7 @@ own_grant setup s lock one = record {
 abbrev pub grant_message : {S : Type 0} → Setup → ℕ → Processor S → Lock → Waiting → Msg
 grant_message setup me s lock one =
     message me s one.proc.0
-      (Body.Grant lock one.mode one.turn (s.locks lock.0).version (newer_lines setup s.lines lock one.«have»))
+    (Body.Grant lock one.mode one.turn (s.locks lock.0).version (newer_lines setup s.lines lock one.«have»))
 
 abbrev pub is_of : ℕ → Waiting → Bool
 is_of p one = one.proc.0 == p

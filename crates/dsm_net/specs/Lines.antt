@@ -1,5 +1,5 @@
 -- Lines: pieces of the shared cells, cut into eights.
-use Rattle.std.specs.Prelude.{ℕ, ℤ, ◌+◌, ◌-◌, ◌*◌, ◌/◌, Bool, true, false, ◌==◌, if◌then◌else◌, nat_lt, min, List, [], ◌∷◌, ◌++◌, map, filter}
+use Rattle.std.specs.Prelude.{ℕ, ℤ, ◌+◌, ◌-◌, ◌*◌, ◌/◌, Bool, false, ◌==◌, if◌then◌else◌, nat_lt, min, List, [], ◌∷◌, ◌++◌, map, filter}
 use Rattle.std.specs.List.{range_with_len}
 use Rattle.dsm_base.specs.declared.setup.Object.{Object}
 use Rattle.dsm_base.specs.declared.setup.Piece.{Piece}

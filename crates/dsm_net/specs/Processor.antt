@@ -1,5 +1,5 @@
 -- A processor: what its own turns leave, what has come to it, the locks and barriers that it keeps, and what it knows of the others.
-use Rattle.std.specs.Prelude.{ℕ, ℤ, pos, Bool, false, List, [], Option, Some, None}
+use Rattle.std.specs.Prelude.{ℕ, ℤ, pos, Bool, false, List, [], Option, None}
 use Rattle.dsm_base.specs.declared.names.Mode.{Mode}
 use Rattle.dsm_base.specs.declared.label.Ending.{Ending}
 use Rattle.dsm_base.specs.declared.lists.Record.{Record}

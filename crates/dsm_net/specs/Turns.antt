@@ -34,7 +34,7 @@ abbrev pub turn_with : {S : Type 0} → Setup → Semantics S → ℕ → Own S 
 turn_with setup threads p own None = None
 turn_with setup threads p own (Some input) =
     option_map (λ label. record { label = label; lines = input.lines })
-      (label_of setup.bindings p (own_view own input.number) (threads.text own.thread) (threads.want own.thread))
+    (label_of setup.bindings p (own_view own input.number) (threads.text own.thread) (threads.want own.thread))
 
 -- the next turn of p, where it can make one
 abbrev pub own_turn : {S : Type 0} → Setup → Semantics S → ℕ → Processor S → Option OwnTurn

@@ -36,7 +36,7 @@ then_made unit net more = record { net = net; records = unit.records ++ more }
 abbrev pub with_letter : {S : Type 0} → Net S → Msg → Net S
 with_letter net msg = record net {
   channels = update_at net.channels msg.from.0 msg.to.0
-    (net.channels msg.from.0 msg.to.0 ++ record { number = net.sent + 1; msg = msg } ∷ []);
+      (net.channels msg.from.0 msg.to.0 ++ record { number = net.sent + 1; msg = msg } ∷ []);
   sent = net.sent + 1;
 }
 
@@ -44,7 +44,7 @@ with_letter net msg = record net {
 abbrev pub with_message_to : {S : Type 0} → Made S → Msg → Option (Processor S) → Made S
 with_message_to unit msg None =
     then_made unit (record unit.net { sent = unit.net.sent + 1 })
-      (Rec.Sent (unit.net.sent + 1) msg ∷ Rec.Dropped (unit.net.sent + 1) ∷ [])
+    (Rec.Sent (unit.net.sent + 1) msg ∷ Rec.Dropped (unit.net.sent + 1) ∷ [])
 with_message_to unit msg (Some receiver) =
     then_made unit (with_letter unit.net msg) (Rec.Sent (unit.net.sent + 1) msg ∷ [])
 
@@ -59,7 +59,7 @@ with_messages unit (msg ∷ others) = with_messages (with_message unit msg) othe
 abbrev pub with_line_out : {S : Type 0} → Made S → ℕ → PendingLine → Made S
 with_line_out unit p line =
     then_made unit (record unit.net { out = update unit.net.out p line.turn })
-      (Rec.Out (processor_named p) line.turn line.text ∷ [])
+    (Rec.Out (processor_named p) line.turn line.text ∷ [])
 
 abbrev pub with_lines_out : {S : Type 0} → Made S → ℕ → List PendingLine → Made S
 with_lines_out unit p [] = unit
@@ -78,7 +78,7 @@ abbrev pub with_replay : {S : Type 0} → Made S → ℕ → Effect S → Made S
 with_replay unit p effect =
     if effect.replayed
     then with_messages (then_made unit unit.net
-      (Rec.Replayed (processor_named p) effect.processor.own.turns ∷ [])) effect.rebuilt
+    (Rec.Replayed (processor_named p) effect.processor.own.turns ∷ [])) effect.rebuilt
     else unit
 
 -- what p does in a unit, where what came to it came from here

@@ -23,29 +23,64 @@ pub enum Rec {
         lines: LineList,
     },
     /// A message was sent.
-    Sent { number: u32, msg: Msg },
+    Sent {
+        number: u32,
+        msg: Msg,
+    },
     /// The message with this number was delivered.
-    Delivered { number: u32 },
+    Delivered {
+        number: u32,
+    },
     /// The message with this number was lost: its receiver was down, or its sender or receiver crashed.
-    Dropped { number: u32 },
+    Dropped {
+        number: u32,
+    },
     /// The line that a processor printed in this turn went out.
-    Out { proc: Proc, turn: u32, text: Text },
+    Out {
+        proc: Proc,
+        turn: u32,
+        text: Text,
+    },
     /// An image of a processor was taken after this turn; it has so many blocks.
-    Begun { proc: Proc, turn: u32, blocks: u32 },
+    Begun {
+        proc: Proc,
+        turn: u32,
+        blocks: u32,
+    },
     /// A block of the image under way was written.
-    Wrote { proc: Proc, block: u32 },
+    Wrote {
+        proc: Proc,
+        block: u32,
+    },
     /// A block of the image under way was written with so many of its bytes, at a crash.
-    Torn { proc: Proc, block: u32, kept: u32 },
+    Torn {
+        proc: Proc,
+        block: u32,
+        kept: u32,
+    },
     /// The image that was taken after this turn is marked.
-    Marked { proc: Proc, turn: u32 },
+    Marked {
+        proc: Proc,
+        turn: u32,
+    },
     /// The image under way was given up.
-    GaveUp { proc: Proc },
+    GaveUp {
+        proc: Proc,
+    },
     /// A processor crashed.
-    Crashed { proc: Proc },
+    Crashed {
+        proc: Proc,
+    },
     /// A processor was restarted as it was after this turn.
-    Reloaded { proc: Proc, turn: u32 },
+    Reloaded {
+        proc: Proc,
+        turn: u32,
+    },
     /// A processor's replay ended with this turn.
-    Replayed { proc: Proc, turn: u32 },
+    Replayed {
+        proc: Proc,
+        turn: u32,
+    },
 }
 
 /// The records of one unit in their order.
