@@ -3,7 +3,7 @@ use Rattle.std.specs.Prelude.{◌≡◌, ◌≢◌, ℕ, ◌==◌, Bool, true, f
 use Rattle.std.proofs.Common.{arith, refl, ap, subst, inl, inr, append_assoc, append-nil, true≢false}
 use Rattle.std.proofs.lemmas.Bool.Decides.{eqb_tells}
 use Rattle.dsm_base.specs.declared.names.Mode.{Mode}
-use Rattle.dsm_trace.specs.declared.lock.Holder.{Holder}
+use Rattle.dsm_base.specs.declared.holders.Holder.{Holder}
 use Rattle.dsm_trace.specs.declared.lock.Waiting.{Waiting}
 use Rattle.dsm_trace.specs.Locks.{are_shared, is_compatible, holder_of, front_of, behind_front, without_holder}
 use Rattle.dsm_trace.specs.Effects.{is_of}

@@ -13,12 +13,13 @@ use Rattle.dsm_trace.specs.History.{deed_labels}
 use Rattle.dsm_trace.proofs.Deeds.{held_by, versions_by, crossed_by, IsLeftBy}
 use Rattle.dsm_laws_runs.specs.OwnPart.{held_of, crossed_of, own_versions_of}
 use Rattle.dsm_laws_runs.specs.Versions.{AllAskFirst, SameAt}
-use Rattle.dsm_laws_runs.specs.Steps.{Step, turns_of, deeds_by, IsAdequate}
-use Rattle.dsm_laws_runs.specs.Agreement.{AgreesAfter}
+use Rattle.dsm_laws_steps.specs.Steps.{Step, turns_of, deeds_by, IsAdequate}
+use Rattle.dsm_laws_steps.specs.Agreement.{AgreesAfter}
 use Rattle.dsm_laws_runs.proofs.OwnPart.{own_thread, own_held, own_crossed}
-use Rattle.dsm_laws_runs.proofs.Steps.{same_labels}
-use Rattle.dsm_laws_runs.proofs.Access.{BoundTo, bound_to, may_load_is, loaded_in_piece}
-use Rattle.dsm_laws_runs.proofs.Copies.{agrees_at}
+use Rattle.dsm_laws_steps.proofs.Steps.{same_labels}
+use Rattle.dsm_laws_runs.proofs.Access.{may_load_is}
+use Rattle.dsm_laws_steps.proofs.Bound.{BoundTo, bound_to, loaded_in_piece}
+use Rattle.dsm_laws_steps.proofs.Copies.{agrees_at}
 use Rattle.dsm_laws_locks.proofs.Labels.{IsSameSight}
 
 held_same : (labels : List Label) → held_by labels ≡ held_of labels

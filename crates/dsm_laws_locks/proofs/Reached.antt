@@ -16,7 +16,7 @@ use Rattle.dsm_trace.specs.History.{deed_labels}
 use Rattle.dsm_trace.specs.Told.{Told}
 use Rattle.dsm_trace.proofs.Deeds.{IsLeftBy}
 use Rattle.dsm_laws_runs.specs.Versions.{AllAskFirst}
-use Rattle.dsm_laws_runs.specs.Steps.{Step, turns_of, deeds_by, IsAdequate}
+use Rattle.dsm_laws_steps.specs.Steps.{Step, turns_of, deeds_by, IsAdequate}
 use Rattle.dsm_laws_locks.proofs.Places.{Place, View, mail_of, taking_of, IsSound}
 use Rattle.dsm_laws_locks.proofs.Desks.{Sound}
 use Rattle.dsm_laws_locks.proofs.Turns.{stayed}

@@ -9,10 +9,10 @@ use Rattle.dsm_base.specs.Plain.{Turn, after_run}
 use Rattle.dsm_trace.specs.declared.message.CellValue.{CellValue}
 use Rattle.dsm_trace.specs.Locks.{is_of_lock, cells_of, values_of}
 use Rattle.dsm_laws_runs.specs.Versions.{IsCellOf, SameAt, makes_version, memory_at}
-use Rattle.dsm_laws_runs.specs.Steps.{BringsLock}
+use Rattle.dsm_laws_steps.specs.Steps.{BringsLock}
 use Rattle.dsm_laws_runs.proofs.Versions.{version_rises}
 use Rattle.dsm_laws_runs.proofs.Memory.{memory_at_turn, memory_at_made}
-use Rattle.dsm_laws_runs.proofs.Steps.{values_bring}
+use Rattle.dsm_laws_steps.proofs.Steps.{values_bring}
 
 -- the cells are all cells of the lock, as they were when a version was made that has been made
 pub record IsSaved {S : Type 0} (setup : Setup) (first : ℕ → S) (threads : Semantics S) (run : List Turn) (lock version : ℕ) (cells : List CellValue) : Type 0 where

@@ -21,7 +21,7 @@ use Rattle.dsm_trace.specs.Told.{Told}
 use Rattle.dsm_trace.proofs.Deeds.{IsLeftBy}
 use Rattle.dsm_trace.proofs.Units.{next_by_step}
 use Rattle.dsm_laws_runs.specs.Versions.{makes_version}
-use Rattle.dsm_laws_runs.specs.Steps.{Step, turns_of, deeds_by}
+use Rattle.dsm_laws_steps.specs.Steps.{Step, turns_of, deeds_by}
 use Rattle.dsm_laws_locks.proofs.Members.{same_number, if_same, at_locks, back_same, back_false}
 use Rattle.dsm_laws_locks.proofs.Places.{word_of, Asked, Left, View, side_of, Saved, mail_of, taking_of, IsSound}
 use Rattle.dsm_laws_locks.proofs.Moves.{IsMailed, is_mailed}

@@ -13,7 +13,7 @@ use Rattle.dsm_trace.specs.declared.message.MailGrant.{MailGrant}
 use Rattle.dsm_trace.specs.Locks.{are_shared}
 use Rattle.dsm_trace.specs.Processor.{grant_for}
 use Rattle.dsm_trace.specs.Told.{Told}
-use Rattle.dsm_laws_runs.proofs.Families.{all_from}
+use Rattle.dsm_base.proofs.Families.{all_from}
 use Rattle.dsm_laws_locks.proofs.Members.{turned_false}
 use Rattle.dsm_laws_locks.proofs.Holders.{modes_of, both_shared}
 use Rattle.dsm_laws_locks.proofs.Places.{mail_of, taking_of, side_of, side_at, Mailed, IsCurrent, Brings}

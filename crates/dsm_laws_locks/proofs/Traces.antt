@@ -31,8 +31,8 @@ use Rattle.dsm_trace.specs.OneMemory.{BindsLocksOnly, IsOneMemory}
 use Rattle.dsm_trace.proofs.Units.{next_by_step, next_told, told_by_unit, trace_numbered}
 use Rattle.dsm_trace.proofs.Deeds.{IsLeftBy, trace_left}
 use Rattle.dsm_laws_runs.specs.Versions.{memory_at}
-use Rattle.dsm_laws_runs.specs.Steps.{Step, turns_of, deeds_by, Brings}
-use Rattle.dsm_laws_runs.proofs.Copies.{agrees_with}
+use Rattle.dsm_laws_steps.specs.Steps.{Step, turns_of, deeds_by, Brings}
+use Rattle.dsm_laws_steps.proofs.Copies.{agrees_with}
 use Rattle.dsm_laws_locks.proofs.Places.{Out}
 use Rattle.dsm_laws_locks.proofs.Wants.{take_wanted, not_taking}
 use Rattle.dsm_laws_locks.proofs.Saved.{AreWithin, saved_brings}

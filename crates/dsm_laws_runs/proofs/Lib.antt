@@ -1,4 +1,4 @@
-pub mod Families
+pub mod Each
 pub mod OwnPart
 pub mod Turns
 pub mod Asking
@@ -6,8 +6,17 @@ pub mod Exclusion
 pub mod Versions
 pub mod Access
 pub mod Memory
-pub mod Steps
 pub mod OtherTurn
-pub mod Copies
+pub mod OwnVersions
+pub mod Epochs
+pub mod Clashes
 pub mod Swap
+pub mod Likeness
+pub mod Commuting
+pub mod Barriers
+pub mod OwnTurns
+pub mod Agreements
+pub mod CopiesKept
+pub mod Newer
+pub mod ArrivalLines
 mod Example

@@ -1,6 +1,7 @@
 -- Two neighbouring turns of different processors change places, where the later one doesn't rest on the earlier one.
-use Rattle.std.specs.Prelude.{◌≡◌, ◌≢◌, ℕ, ℤ, ◌+◌, ◌<◌, ◌≤◌, nat_lt, Bool, true, false, ◌&&◌, ◌||◌, ◌==◌, if◌then◌else◌, List, ◌∷◌, Option, Some, None, is_some}
-use Rattle.std.proofs.Common.{arith, refl, sym, subst, ◌∙◌}
+use Rattle.std.specs.Prelude.{◌≡◌, ◌≢◌, ℕ, ℤ, ◌+◌, ◌<◌, ◌≤◌, nat_lt, Bool, true, false, ◌&&◌, ◌||◌, ◌==◌, not, if◌then◌else◌, List, ◌∷◌, Option, Some, None, is_some}
+use Rattle.std.proofs.Common.{arith, refl, sym, ◌∙◌}
+use Rattle.std.proofs.lemmas.Bool.{cases_eq}
 use Rattle.std.proofs.Math.Path.{fun_ext}
 use Rattle.dsm_base.specs.declared.names.Lock.{Lock}
 use Rattle.dsm_base.specs.declared.names.Bar.{Bar}
@@ -12,29 +13,28 @@ use Rattle.dsm_base.specs.declared.setup.Setup.{Setup}
 use Rattle.dsm_base.specs.Family.{update}
 use Rattle.dsm_base.specs.Access.{is_exclusive}
 use Rattle.dsm_base.specs.Threads.{Semantics}
-use Rattle.dsm_base.specs.Plain.{PlainState, Turn, IsPlainRun, after_run, plain_after, plain_turn, plain_turn_of, memory_after, held_after, versions_after, arrived_after, crossed_after, can_take, can_cross, may_stand_beside}
-use Rattle.dsm_laws_runs.specs.Versions.{AllAskFirst, IsCellOf, SameAt, makes_version, memory_at}
-use Rattle.dsm_trace.specs.OneMemory.{BindsLocksOnly}
-use Rattle.dsm_laws_runs.specs.Swap.{rests_on, clashes, AreFree, ChangePlaces}
-use Rattle.dsm_laws_runs.proofs.Families.{all_at, all_from}
+use Rattle.dsm_base.specs.Plain.{PlainState, Turn, after_run, plain_after, plain_turn, plain_turn_of, memory_after, held_after, versions_after, arrived_after, crossed_after, can_take, can_cross, may_stand_beside, labels_of}
+use Rattle.dsm_laws_runs.specs.Versions.{SameAt, makes_version, memory_at}
+use Rattle.dsm_laws_runs.specs.Swap.{rests_on, clashes, IsRunLike, AreNeighbours, IsFree}
+use Rattle.dsm_base.proofs.Families.{all_at, all_from}
 use Rattle.dsm_laws_runs.proofs.OwnPart.{other_thread, other_held, other_crossed}
-use Rattle.dsm_laws_runs.proofs.Turns.{takes_of}
+use Rattle.dsm_laws_runs.proofs.Turns.{takes_of, crosses_of}
 use Rattle.dsm_laws_runs.proofs.Asking.{takes_when_free}
 use Rattle.dsm_laws_runs.proofs.Exclusion.{beside_of, exclusive_alone, taken_beside}
 use Rattle.dsm_laws_runs.proofs.Versions.{version_step, version_kept}
-use Rattle.dsm_laws_runs.proofs.Access.{BoundTo, stored_bound, stores_hold, loads_hold}
 use Rattle.dsm_laws_runs.proofs.OtherTurn.{kept_memory}
+use Rattle.dsm_laws_runs.proofs.Clashes.{neighbours_apart}
 
 -- a state in which p's turn is the same as in another: what the label depends on is the same, and what was possible is possible
-record SameFor {S : Type 0} (procs : ℕ) (s t : PlainState S) (p : ℕ) (label : Label) : Type 0 where
-  held : t.held p ≡ s.held p
-  crossed : t.crossed p ≡ s.crossed p
-  loads : (cell : Cell) (value : ℤ) → label ≡ Label.Load cell value → t.memory cell.0 ≡ s.memory cell.0
-  takes : (lock : Lock) (mode : Mode) (version : ℕ) → label ≡ Label.Take lock mode version → t.versions lock.0 ≡ s.versions lock.0
-  can_take : (lock : Lock) (mode : Mode) (version : ℕ) → label ≡ Label.Take lock mode version → can_take procs t.held p lock.0 mode ≡ true → can_take procs s.held p lock.0 mode ≡ true
-  can_cross : (bar : Bar) (epoch : ℕ) → label ≡ Label.Cross bar epoch → can_cross procs t.arrived (t.crossed p bar.0) bar.0 ≡ true → can_cross procs s.arrived (s.crossed p bar.0) bar.0 ≡ true
+pub record SameFor {S : Type 0} (procs : ℕ) (s t : PlainState S) (p : ℕ) (label : Label) : Type 0 where
+  pub held : t.held p ≡ s.held p
+  pub crossed : t.crossed p ≡ s.crossed p
+  pub loads : (cell : Cell) (value : ℤ) → label ≡ Label.Load cell value → t.memory cell.0 ≡ s.memory cell.0
+  pub takes : (lock : Lock) (mode : Mode) (version : ℕ) → label ≡ Label.Take lock mode version → t.versions lock.0 ≡ s.versions lock.0
+  pub can_take : (lock : Lock) (mode : Mode) (version : ℕ) → label ≡ Label.Take lock mode version → can_take procs t.held p lock.0 mode ≡ true → can_take procs s.held p lock.0 mode ≡ true
+  pub can_cross : (bar : Bar) (epoch : ℕ) → label ≡ Label.Cross bar epoch → can_cross procs t.arrived (t.crossed p bar.0) bar.0 ≡ true → can_cross procs s.arrived (s.crossed p bar.0) bar.0 ≡ true
 
-same_turn : {S : Type 0} (setup : Setup) (s t : PlainState S) (p : ℕ) (text : List ℕ) (want : Want) (label : Label) → SameFor setup.procs s t p label →
+pub same_turn : {S : Type 0} (setup : Setup) (s t : PlainState S) (p : ℕ) (text : List ℕ) (want : Want) (label : Label) → SameFor setup.procs s t p label →
     plain_turn_of setup t p text want ≡ Some label → plain_turn_of setup s p text want ≡ Some label
 same_turn setup s t p text want label same e = grind (arith, same.held, same.crossed, same.loads, same.takes, same.can_take, same.can_cross)
 
@@ -46,15 +46,15 @@ clashes_back x y = grind arith
 kept_cell : (memory : ℕ → ℤ) (x : Label) (cell : Cell) (value : ℤ) → clashes x (Label.Load cell value) ≡ false → memory_after memory x cell.0 ≡ memory cell.0
 kept_cell memory x cell value e = grind arith
 
-kept_version : (versions : ℕ → ℕ) (held : ℕ → Option Mode) (x : Label) (lock : Lock) (mode : Mode) (version : ℕ) → rests_on held x (Label.Take lock mode version) ≡ false →
+kept_version : (versions : ℕ → ℕ) (held : ℕ → Option Mode) (arrived : ℕ → ℕ) (x : Label) (lock : Lock) (mode : Mode) (version : ℕ) → rests_on held arrived x (Label.Take lock mode version) ≡ false →
     versions_after versions held x lock.0 ≡ versions lock.0
-kept_version versions held x lock mode version e = grind arith
+kept_version versions held arrived x lock mode version e = grind arith
 
 -- a hold beside which a lock can be taken after a turn was one beside which it could be taken before it
-stands_before : (held : ℕ → Option Mode) (x : Label) (lock : Lock) (mode : Mode) (version : ℕ) → rests_on held x (Label.Take lock mode version) ≡ false →
+stands_before : (held : ℕ → Option Mode) (arrived : ℕ → ℕ) (x : Label) (lock : Lock) (mode : Mode) (version : ℕ) → rests_on held arrived x (Label.Take lock mode version) ≡ false →
     ((taken : Lock) (other : Mode) (now : ℕ) → x ≡ Label.Take taken other now → held taken.0 ≡ None) →
     may_stand_beside mode (held_after held x lock.0) ≡ true → may_stand_beside mode (held lock.0) ≡ true
-stands_before held x lock mode version e free may = grind (arith, free)
+stands_before held arrived x lock mode version e free may = grind (arith, free)
 
 -- a hold beside which a lock can be taken stays so, where the lock could be taken beside that take
 stands_after : (held : ℕ → Option Mode) (y : Label) (lock : Lock) (mode : Mode) →
@@ -64,8 +64,10 @@ stands_after held (Label.Take taken other now) lock mode beside may = grind (ari
 stands_after held (Label.Give given) lock mode beside may = grind arith
 stands_after held _ lock mode beside may = may
 
-kept_arrivals : (held : ℕ → Option Mode) (arrived : ℕ → ℕ) (x : Label) (bar : Bar) (epoch : ℕ) → rests_on held x (Label.Cross bar epoch) ≡ false → arrived_after arrived x bar.0 ≡ arrived bar.0
-kept_arrivals held arrived x bar epoch e = grind arith
+-- who has come often enough for a crossing with a turn had come often enough before it
+came_before : (held : ℕ → Option Mode) (arrived : ℕ → ℕ) (x : Label) (bar : Bar) (epoch crossed : ℕ) → rests_on held arrived x (Label.Cross bar epoch) ≡ false → epoch ≡ crossed + 1 →
+    crossed < arrived_after arrived x bar.0 → crossed < arrived bar.0
+came_before held arrived x bar epoch crossed e is less = grind arith
 
 arrivals_rise : (arrived : ℕ → ℕ) (y : Label) (bar : ℕ) → arrived bar ≤ arrived_after arrived y bar
 arrivals_rise arrived y bar = grind arith
@@ -83,27 +85,27 @@ can_cross_same procs f g epoch bar less e =
     all_from procs (λ r. nat_lt epoch (g r bar)) (λ r lt. grind (arith, less r, all_at procs (λ r. nat_lt epoch (f r bar)) r lt e))
 
 -- The earlier turn is p's, the later one q's.
-module _ {S : Type 0} (setup : Setup) (threads : Semantics S) (s : PlainState S) (p q : ℕ) (x y : Label) (apart : p ≢ q) where
+module _ {S : Type 0} (setup : Setup) (threads : Semantics S) (s : PlainState S) (p q : ℕ) (x y : Label) (apart : p ≢ q) (clash : clashes x y ≡ false) where
   -- the later turn can be made first
-  later_first : rests_on (s.held p) x y ≡ false → clashes x y ≡ false → ((taken : Lock) (other : Mode) (now : ℕ) → x ≡ Label.Take taken other now → s.held p taken.0 ≡ None) →
-      SameFor setup.procs s (plain_after threads s p x) q y
-  later_first rests clash free = record {
+  later_first : rests_on (s.held p) (s.arrived p) x y ≡ false → ((bar : Bar) (epoch : ℕ) → y ≡ Label.Cross bar epoch → epoch ≡ s.crossed q bar.0 + 1) →
+      ((taken : Lock) (other : Mode) (now : ℕ) → x ≡ Label.Take taken other now → s.held p taken.0 ≡ None) → SameFor setup.procs s (plain_after threads s p x) q y
+  later_first rests next free = record {
     held = other_held threads s q p x (λ e. apart (sym e));
     crossed = other_crossed threads s q p x (λ e. apart (sym e));
     loads = λ cell value is. kept_cell s.memory x cell value (rw is at clash);
-    takes = λ lock mode version is. kept_version s.versions (s.held p) x lock mode version (rw is at rests);
+    takes = λ lock mode version is. kept_version s.versions (s.held p) (s.arrived p) x lock mode version (rw is at rests);
     can_take = λ lock mode version is. can_take_same setup.procs (plain_after threads s p x).held s.held q lock.0 mode
-        (λ r. grind (arith, stands_before (s.held p) x lock mode version (rw is at rests) free));
+        (λ r. grind (arith, stands_before (s.held p) (s.arrived p) x lock mode version (rw is at rests) free));
     can_cross = λ bar epoch is e. can_cross_same setup.procs (plain_after threads s p x).arrived s.arrived (s.crossed q bar.0) bar.0
-        (λ r. grind (arith, kept_arrivals (s.held p) (s.arrived p) x bar epoch (rw is at rests)))
+        (λ r. grind (arith, came_before (s.held p) (s.arrived p) x bar epoch (s.crossed q bar.0) (rw is at rests) (next bar epoch is)))
         (rw (other_crossed threads s q p x (λ e. apart (sym e))) at e);
   }
 
   -- the earlier turn can be made second
-  earlier_second : clashes x y ≡ false → ((lock : Lock) (mode : Mode) (version : ℕ) → x ≡ Label.Take lock mode version → is_exclusive (s.held q lock.0) ≡ false) →
+  earlier_second : ((lock : Lock) (mode : Mode) (version : ℕ) → x ≡ Label.Take lock mode version → is_exclusive (s.held q lock.0) ≡ false) →
       ((lock : Lock) (mode : Mode) (version : ℕ) → x ≡ Label.Take lock mode version → (taken : Lock) (other : Mode) (now : ℕ) → y ≡ Label.Take taken other now → taken.0 ≡ lock.0 → may_stand_beside other (Some mode) ≡ true) →
       SameFor setup.procs (plain_after threads s q y) s p x
-  earlier_second clash free beside = record {
+  earlier_second free beside = record {
     held = sym (other_held threads s p q y apart);
     crossed = sym (other_crossed threads s p q y apart);
     loads = λ cell value is. sym (kept_cell s.memory y cell value (clashes_back y (Label.Load cell value) ∙ (rw is at clash)));
@@ -151,7 +153,7 @@ makes_exclusive lock held label e = grind arith
 exclusive_some : (held : Option Mode) → is_exclusive held ≡ true → is_some held ≡ true
 exclusive_some held e = grind arith
 
-memory_at_if : {S : Type 0} (first : ℕ → S) (threads : Semantics S) (turn : Turn) (before : List Turn) (lock version cell : ℕ) →
+pub memory_at_if : {S : Type 0} (first : ℕ → S) (threads : Semantics S) (turn : Turn) (before : List Turn) (lock version cell : ℕ) →
     memory_at first threads (turn ∷ before) lock version cell
     ≡ (if makes_version lock ((after_run first threads before).held turn.proc) turn.label && ((after_run first threads before).versions lock + 1 == version)
     then (after_run first threads before).memory cell else memory_at first threads before lock version cell)
@@ -172,47 +174,38 @@ taken_both setup threads s p q x lt apart lock mode version is taken other now s
     let holds : (plain_after threads s p x).held p taken.0 ≡ Some mode = grind arith in
     rw holds at may
 
-differ : (c d : ℕ) → (c ≡ d → ⊥) → (c == d) ≡ false
-differ c d ne = grind arith
+-- each processor makes the same turns
+swapped_labels : (earlier later : Turn) (before : List Turn) → earlier.proc ≢ later.proc → (p : ℕ) → labels_of p (earlier ∷ later ∷ before) ≡ labels_of p (later ∷ earlier ∷ before)
+swapped_labels earlier later before apart p = grind arith
 
--- where all cells are bound to locks two turns of different processors don't clash
-no_clash : {S : Type 0} (setup : Setup) → BindsLocksOnly setup → (threads : Semantics S) (s t : PlainState S) (p q : ℕ) → t.held q ≡ s.held q →
-    ((lock : ℕ) → is_exclusive (s.held p lock) ≡ true → s.held q lock ≡ None) → ((lock : ℕ) → is_exclusive (s.held q lock) ≡ true → s.held p lock ≡ None) →
-    (x y : Label) → plain_turn setup threads s p ≡ Some x → plain_turn setup threads t q ≡ Some y → clashes x y ≡ false
-no_clash setup binds threads s t p q same alone back (Label.Store cell value) (Label.Store other new) turn_x turn_y =
-    let bound : BoundTo setup cell.0 = stored_bound setup threads s p binds cell value turn_x in
-    differ cell.0 other.0 (λ e. grind (arith, alone bound.lock, stores_hold setup threads s p cell value turn_x bound.lock bound.is_cell, stores_hold setup threads t q other new turn_y bound.lock (subst (λ c. IsCellOf setup bound.lock c) e bound.is_cell)))
-no_clash setup binds threads s t p q same alone back (Label.Store cell value) (Label.Load other new) turn_x turn_y =
-    let bound : BoundTo setup cell.0 = stored_bound setup threads s p binds cell value turn_x in
-    differ cell.0 other.0 (λ e. grind (arith, alone bound.lock, stores_hold setup threads s p cell value turn_x bound.lock bound.is_cell, loads_hold setup threads t q other new turn_y bound.lock (subst (λ c. IsCellOf setup bound.lock c) e bound.is_cell)))
-no_clash setup binds threads s t p q same alone back (Label.Load cell value) (Label.Store other new) turn_x turn_y =
-    let bound : BoundTo setup other.0 = stored_bound setup threads t q binds other new turn_y in
-    differ cell.0 other.0 (λ e. grind (arith, back bound.lock, loads_hold setup threads s p cell value turn_x bound.lock (subst (λ c. IsCellOf setup bound.lock c) (sym e) bound.is_cell), stores_hold setup threads t q other new turn_y bound.lock bound.is_cell))
-no_clash setup binds threads s t p q same alone back _ _ turn_x turn_y = refl
-
-module _ {S : Type 0} (setup : Setup) (first : ℕ → S) (threads : Semantics S) (ask_first : AllAskFirst setup first threads) (before : List Turn) (earlier later : Turn)
-    (is_run : IsPlainRun setup first threads (later ∷ earlier ∷ before)) (apart : earlier.proc ≢ later.proc) where
+module _ {S : Type 0} (setup : Setup) (first : ℕ → S) (threads : Semantics S) (before : List Turn) (earlier later : Turn) (near : AreNeighbours setup first threads before earlier later) where
   abbrev start : PlainState S
   start = after_run first threads before
 
   back : later.proc ≢ earlier.proc
-  back e = apart (sym e)
+  back e = near.apart (sym e)
 
-  module _ (rests : rests_on ((after_run first threads before).held earlier.proc) earlier.label later.label ≡ false) (clash : clashes earlier.label later.label ≡ false) where
+  clash : clashes earlier.label later.label ≡ false
+  clash = neighbours_apart setup first threads before earlier later near
+
+  module _ (free : IsFree first threads before earlier later) where
     later_turn : plain_turn setup threads start later.proc ≡ Some later.label
     later_turn =
         same_turn setup start (plain_after threads start earlier.proc earlier.label) later.proc _ _ later.label
-        (later_first setup threads start earlier.proc later.proc earlier.label later.label apart rests clash
-        (λ taken mode version is. takes_when_free setup first threads ask_first before is_run.0.0 earlier.proc is_run.0.1.is_processor taken mode version (rw is at is_run.0.1.is_label)))
-        (rw (other_thread threads start later.proc earlier.proc earlier.label back) at is_run.1.is_label)
+        (later_first setup threads start earlier.proc later.proc earlier.label later.label near.apart clash free
+        (λ bar epoch is. rw (← (other_crossed threads start later.proc earlier.proc earlier.label back))
+        (crosses_of setup (plain_after threads start earlier.proc earlier.label) later.proc _ _ bar epoch (rw is at near.is_run.1.is_label)).is_epoch)
+        (λ taken mode version is. takes_when_free setup first threads near.ask_first before near.is_run.0.0 earlier.proc near.is_run.0.1.is_processor taken mode version (rw is at near.is_run.0.1.is_label)))
+        (rw (other_thread threads start later.proc earlier.proc earlier.label back) at near.is_run.1.is_label)
 
     earlier_turn : plain_turn setup threads (plain_after threads start later.proc later.label) earlier.proc ≡ Some earlier.label
     earlier_turn =
         same_turn setup (plain_after threads start later.proc later.label) start earlier.proc _ _ earlier.label
-        (earlier_second setup threads start earlier.proc later.proc earlier.label later.label apart clash
-        (λ lock mode version is. taken_beside setup first threads before is_run.0.0 earlier.proc lock mode version (rw is at is_run.0.1.is_label) later.proc back)
-        (λ lock mode version is taken other now takes same. taken_both setup threads start earlier.proc later.proc earlier.label is_run.0.1.is_processor apart lock mode version is taken other now same (rw takes at is_run.1.is_label)))
-        (rw (other_thread threads start earlier.proc later.proc later.label apart) is_run.0.1.is_label)
+        (earlier_second setup threads start earlier.proc later.proc earlier.label later.label near.apart clash
+        (λ lock mode version is. taken_beside setup first threads before near.is_run.0.0 earlier.proc lock mode version (rw is at near.is_run.0.1.is_label) later.proc back)
+        (λ lock mode version is taken other now takes same.
+        taken_both setup threads start earlier.proc later.proc earlier.label near.is_run.0.1.is_processor near.apart lock mode version is taken other now same (rw takes at near.is_run.1.is_label)))
+        (rw (other_thread threads start earlier.proc later.proc later.label near.apart) near.is_run.0.1.is_label)
 
     -- the cells of a lock at a version, which at most one of the two turns makes
     same_at : (lock version : ℕ) → SameAt setup lock (memory_at first threads (earlier ∷ later ∷ before) lock version) (memory_at first threads (later ∷ earlier ∷ before) lock version)
@@ -222,7 +215,7 @@ module _ {S : Type 0} (setup : Setup) (first : ℕ → S) (threads : Semantics S
           memory_at_if first threads later before lock version cell,
           memory_at_if first threads later (earlier ∷ before) lock version cell,
           memory_at_if first threads earlier before lock version cell,
-          other_held threads start earlier.proc later.proc later.label apart,
+          other_held threads start earlier.proc later.proc later.label near.apart,
           other_held threads start later.proc earlier.proc earlier.label back,
         )
         (same_choice one other (start.versions lock) ((plain_after threads start earlier.proc earlier.label).versions lock) ((plain_after threads start later.proc later.label).versions lock) version
@@ -230,8 +223,10 @@ module _ {S : Type 0} (setup : Setup) (first : ℕ → S) (threads : Semantics S
         alone
         (version_kept start.versions (start.held earlier.proc) earlier.label lock)
         (version_kept start.versions (start.held later.proc) later.label lock)
-        (λ made. kept_memory setup first threads before is_run.0.0 later.proc earlier.proc earlier.label back is_run.0.1.is_label lock (exclusive_some _ (makes_exclusive lock (start.held later.proc) later.label made)) cell is)
-        (λ made. kept_memory setup first threads before is_run.0.0 earlier.proc later.proc later.label apart later_turn lock (exclusive_some _ (makes_exclusive lock (start.held earlier.proc) earlier.label made)) cell is))
+        (λ made. kept_memory setup first threads before near.is_run.0.0 later.proc earlier.proc earlier.label back near.is_run.0.1.is_label lock
+        (exclusive_some _ (makes_exclusive lock (start.held later.proc) later.label made)) cell is)
+        (λ made. kept_memory setup first threads before near.is_run.0.0 earlier.proc later.proc later.label near.apart later_turn lock
+        (exclusive_some _ (makes_exclusive lock (start.held earlier.proc) earlier.label made)) cell is))
       where
         one : Bool
         one = makes_version lock (start.held earlier.proc) earlier.label
@@ -244,27 +239,31 @@ module _ {S : Type 0} (setup : Setup) (first : ℕ → S) (threads : Semantics S
           arith,
           makes_exclusive lock (start.held earlier.proc) earlier.label made,
           makes_exclusive lock (start.held later.proc) later.label,
-          exclusive_alone setup first threads before is_run.0.0 earlier.proc later.proc lock apart,
+          exclusive_alone setup first threads before near.is_run.0.0 earlier.proc later.proc lock near.apart,
         )
 
-    pub changed : ChangePlaces setup first threads before earlier later
-    changed = record {
-      is_run = ((is_run.0.0, record { is_processor = is_run.1.is_processor; is_label = later_turn }), record { is_processor = is_run.0.1.is_processor; is_label = earlier_turn });
-      same_state = same_state threads start earlier.proc later.proc earlier.label later.label apart clash;
+    pub change_places : IsRunLike setup first threads (earlier ∷ later ∷ before) (later ∷ earlier ∷ before)
+    change_places = record {
+      is_run = ((near.is_run.0.0, record { is_processor = near.is_run.1.is_processor; is_label = later_turn }), record { is_processor = near.is_run.0.1.is_processor; is_label = earlier_turn });
+      same_labels = swapped_labels earlier later before near.apart;
+      same_state = same_state threads start earlier.proc later.proc earlier.label later.label near.apart clash;
       same_versions = same_at;
     }
 
--- where all cells are bound to locks neighbouring turns don't clash
-pub free_clash : {S : Type 0} (setup : Setup) (first : ℕ → S) (threads : Semantics S) (before : List Turn) (earlier later : Turn) → BindsLocksOnly setup →
-    IsPlainRun setup first threads (later ∷ earlier ∷ before) → earlier.proc ≢ later.proc → clashes earlier.label later.label ≡ false
-free_clash setup first threads before earlier later binds is_run apart =
-    no_clash setup binds threads (after_run first threads before) (after_run first threads (earlier ∷ before)) earlier.proc later.proc
-    (other_held threads (after_run first threads before) later.proc earlier.proc earlier.label (λ e. apart (sym e)))
-    (λ lock. exclusive_alone setup first threads before is_run.0.0 earlier.proc later.proc lock apart)
-    (λ lock. exclusive_alone setup first threads before is_run.0.0 later.proc earlier.proc lock (λ e. apart (sym e)))
-    earlier.label later.label is_run.0.1.is_label is_run.1.is_label
+-- Back: a turn that can be made first rests on none of another.
 
-pub change_places : {S : Type 0} (setup : Setup) (first : ℕ → S) (threads : Semantics S) (before : List Turn) (earlier later : Turn) → AreFree setup first threads before earlier later →
-    ChangePlaces setup first threads before earlier later
-change_places setup first threads before earlier later f =
-    changed setup first threads f.ask_first before earlier later f.is_run f.apart f.free (free_clash setup first threads before earlier later f.binds_locks f.is_run f.apart)
+lock_rests_not : (held : ℕ → Option Mode) (given taken : Lock) (mode : Mode) → (given.0 ≡ taken.0 → may_stand_beside mode (held given.0) ≡ true) →
+    ((given.0 == taken.0) && not (may_stand_beside mode (held given.0))) ≡ false
+lock_rests_not held given taken mode may = grind (arith, cases_eq given.0 taken.0, may)
+
+bar_rests_not : (arrived : ℕ → ℕ) (reached bar : Bar) (epoch crossed : ℕ) → epoch ≡ crossed + 1 → nat_lt crossed (arrived bar.0) ≡ true → ((reached.0 == bar.0) && nat_lt (arrived bar.0) epoch) ≡ false
+bar_rests_not arrived reached bar epoch crossed is less = grind arith
+
+pub first_rests_not : {S : Type 0} (setup : Setup) (threads : Semantics S) (s : PlainState S) (p q : ℕ) → p < setup.procs → p ≢ q → (x y : Label) → plain_turn setup threads s q ≡ Some y →
+    rests_on (s.held p) (s.arrived p) x y ≡ false
+first_rests_not setup threads s p q lt ne (Label.Give given) (Label.Take taken mode version) turn =
+    lock_rests_not (s.held p) given taken mode (λ e. rw e (beside_of setup.procs s.held q taken.0 mode p lt ne (takes_of setup s q _ _ taken mode version turn).possible))
+first_rests_not setup threads s p q lt ne (Label.Arrive reached) (Label.Cross bar epoch) turn =
+    let cross = crosses_of setup s q _ _ bar epoch turn in
+    bar_rests_not (s.arrived p) reached bar epoch (s.crossed q bar.0) cross.is_epoch (all_at setup.procs (λ r. nat_lt (s.crossed q bar.0) (s.arrived r bar.0)) p lt cross.possible)
+first_rests_not setup threads s p q lt ne _ _ turn = refl

@@ -1,5 +1,9 @@
 pub mod OwnPart
+pub mod Pieces
 pub mod Versions
-pub mod Steps
-pub mod Agreement
+pub mod Epochs
 pub mod Swap
+pub mod Commuting
+pub mod Barriers
+pub mod Copies
+pub mod Newer

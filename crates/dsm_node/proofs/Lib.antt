@@ -1,4 +1,3 @@
-pub mod Families
 pub mod Places
 pub mod Cells
 pub mod Names

@@ -13,7 +13,7 @@ use Rattle.dsm_base.specs.Threads.{Semantics, StaysWithin}
 use Rattle.dsm_trace.specs.declared.message.Body.{Body}
 use Rattle.dsm_trace.specs.declared.message.CellValue.{CellValue}
 use Rattle.dsm_trace.specs.declared.message.MailGrant.{MailGrant}
-use Rattle.dsm_trace.specs.declared.lock.Holder.{Holder}
+use Rattle.dsm_base.specs.declared.holders.Holder.{Holder}
 use Rattle.dsm_trace.specs.declared.lock.Waiting.{Waiting}
 use Rattle.dsm_trace.specs.declared.lock.LockState.{LockState}
 use Rattle.dsm_trace.specs.Locks.{is_of_lock, cells_of, values_of, start_lock, is_compatible, holder_of, is_granted, granted_by_ask, asked, front_of, behind_front, without_holder, granted_by_give, given, cells_after}

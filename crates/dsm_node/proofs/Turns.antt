@@ -12,18 +12,18 @@ use Rattle.dsm_base.specs.declared.setup.Piece.{Piece}
 use Rattle.dsm_base.specs.declared.setup.Setup.{Setup}
 use Rattle.dsm_base.specs.Access.{may_load, may_store}
 use Rattle.dsm_base.specs.Plain.{Surroundings, label_of}
-use Rattle.dsm_base.specs.Threads.{Semantics, StaysWithin, Names, state_after}
+use Rattle.dsm_base.specs.Threads.{Semantics, Kind, AnswersTo, StaysWithin, Names, state_after}
 use Rattle.dsm_trace.specs.declared.message.Body.{Body}
 use Rattle.dsm_trace.specs.declared.message.MailGrant.{MailGrant}
 use Rattle.dsm_trace.specs.declared.lock.LockState.{LockState}
 use Rattle.dsm_trace.specs.Locks.{cells_of}
 use Rattle.dsm_trace.specs.declared.message.CellValue.{CellValue}
 use Rattle.dsm_trace.specs.declared.message.Msg.{Msg}
-use Rattle.dsm_trace.specs.Processor.{Processor, Deed, grant_for, cells_in, brought, mail_after, is_ready, own_view, own_label, own_turn}
+use Rattle.dsm_trace.specs.Processor.{Processor, Deed, is_grant_for, grant_for, cells_in, brought, mail_after, is_ready, own_view, own_label, own_turn}
 use Rattle.dsm_trace.specs.Effects.{release_of, body_of, told_home, turned}
 use Rattle.dsm_node.specs.Copy.{AreCells}
 use Rattle.dsm_node.specs.Names.{BodyNames, LabelNames, KeepsNames}
-use Rattle.dsm_node.specs.Node.{AnswersTo, processor_of, setup_of, me_of, label_at, stepped_by, processor_stepped}
+use Rattle.dsm_node.specs.Node.{processor_of, setup_of, me_of, label_at, stepped_by, processor_stepped}
 use Rattle.dsm_node.specs.declared.node.Node.{Node}
 use Rattle.dsm_node.proofs.Names.{cells_of_below, values_of_below}
 
@@ -47,21 +47,21 @@ label_is_for setup pieces p seen text Want.Quiet label within e =
 label_is_for setup pieces p seen text (Want.Load cell line) label within e =
     one_of setup (Want.Load cell line) (may_load pieces p seen.rights cell.0) (Label.Load cell (seen.memory cell.0)) (Label.Stop Fault.Unbound line) label
     record { names = record { cells = tt; asked = tt; locks = tt; bars = tt }; answers = (tt, refl) }
-    record { names = record { cells = tt; asked = tt; locks = tt; bars = tt }; answers = tt } e
+    record { names = record { cells = tt; asked = tt; locks = tt; bars = tt }; answers = (tt, refl) } e
 label_is_for setup pieces p seen text (Want.Store cell value line) label within e =
     one_of setup (Want.Store cell value line) (may_store pieces p seen.rights cell.0) (Label.Store cell value) (Label.Stop Fault.Unbound line) label
     record { names = record { cells = within; asked = tt; locks = tt; bars = tt }; answers = (tt, refl) }
-    record { names = record { cells = tt; asked = tt; locks = tt; bars = tt }; answers = tt } e
+    record { names = record { cells = tt; asked = tt; locks = tt; bars = tt }; answers = (tt, refl) } e
 label_is_for setup pieces p seen text (Want.Ask lock mode line) label within e =
     one_of setup (Want.Ask lock mode line) (is_some (seen.rights.held lock.0)) (Label.Stop Fault.Held line) (Label.Ask lock mode) label
-    record { names = record { cells = tt; asked = tt; locks = tt; bars = tt }; answers = tt }
+    record { names = record { cells = tt; asked = tt; locks = tt; bars = tt }; answers = (tt, refl) }
     record { names = record { cells = tt; asked = within; locks = tt; bars = tt }; answers = (tt, refl) } e
 label_is_for setup pieces p seen text (Want.Take lock mode) label within e =
     subst (IsLabelFor setup (Want.Take lock mode)) (some_is _ label e) record { names = record { cells = tt; asked = tt; locks = within; bars = tt }; answers = (tt, (seen.versions lock.0, refl)) }
 label_is_for setup pieces p seen text (Want.Give lock line) label within e =
     one_of setup (Want.Give lock line) (is_some (seen.rights.held lock.0)) (Label.Give lock) (Label.Stop Fault.NotHeld line) label
     record { names = record { cells = tt; asked = tt; locks = within; bars = tt }; answers = (tt, refl) }
-    record { names = record { cells = tt; asked = tt; locks = tt; bars = tt }; answers = tt } e
+    record { names = record { cells = tt; asked = tt; locks = tt; bars = tt }; answers = (tt, refl) } e
 label_is_for setup pieces p seen text (Want.Arrive bar) label within e =
     subst (IsLabelFor setup (Want.Arrive bar)) (some_is _ label e) record { names = record { cells = tt; asked = tt; locks = tt; bars = within }; answers = (tt, refl) }
 label_is_for setup pieces p seen text (Want.Cross bar) label within e =
@@ -71,7 +71,7 @@ label_is_for setup pieces p seen text Want.Line label within e =
 label_is_for setup pieces p seen text Want.End label within e =
     subst (IsLabelFor setup Want.End) (some_is _ label e) record { names = record { cells = tt; asked = tt; locks = tt; bars = tt }; answers = (tt, refl) }
 label_is_for setup pieces p seen text (Want.Stop fault line) label within e =
-    subst (IsLabelFor setup (Want.Stop fault line)) (some_is _ label e) record { names = record { cells = tt; asked = tt; locks = tt; bars = tt }; answers = tt }
+    subst (IsLabelFor setup (Want.Stop fault line)) (some_is _ label e) record { names = record { cells = tt; asked = tt; locks = tt; bars = tt }; answers = (tt, refl) }
 label_is_for setup pieces p seen text Want.Over label within e = cc
 
 -- the thread still names what is of the setup
@@ -102,7 +102,7 @@ brought_below setup turn mail locks label keeps = of_label label
     none k d within = absurd (omega arith)
 
     of_label : (one : Label) → AreCells setup.cells (brought (grant_for turn mail) one)
-    of_label (Label.Take lock mode version) = cells_in_below setup.cells (grant_for turn mail) (find_all (λ (grant : MailGrant). AreCells setup.cells grant.cells) (λ grant. grant.turn == turn) mail keeps.mail_cells)
+    of_label (Label.Take lock mode version) = cells_in_below setup.cells (grant_for turn mail lock.0) (find_all (λ (grant : MailGrant). AreCells setup.cells grant.cells) (is_grant_for lock.0 turn) mail keeps.mail_cells)
     of_label Label.Quiet = none
     of_label (Label.Load cell value) = none
     of_label (Label.Store cell value) = none
@@ -155,10 +155,10 @@ if_some true item one e = e
 if_some false item one e = cc
 
 -- the label that a processor makes of what its thread wants
-pub label_at_is_for : {T S : Type 0} (state : T → S) (threads : Semantics S) (node : Node T S) (want : Want) (label : Label) → Names (setup_of node) want → label_at state threads node want ≡ Some label → IsLabelFor (setup_of node) want label
-label_at_is_for state threads node want label within e =
-    let s = processor_of state node in
-    label_is_for (setup_of node) (setup_of node).bindings (me_of node) (own_view s) (threads.text s.thread) want label within (if_some (is_ready (grant_for (s.turns + 1) s.mail) want) _ label e)
+pub label_at_is_for : {T S : Type 0} (kind : Kind T S) (node : Node T S) (want : Want) (label : Label) → Names (setup_of node) want → label_at kind node want ≡ Some label → IsLabelFor (setup_of node) want label
+label_at_is_for kind node want label within e =
+    let s = processor_of kind node in
+    label_is_for (setup_of node) (setup_of node).bindings (me_of node) (own_view s) (kind.semantics.text s.thread) want label within (if_some (is_ready (grant_for (s.turns + 1) s.mail) want) _ label e)
 
 -- what a step answers and leaves where the thread makes a turn of this label
 module _ {S : Type 0} (setup : Setup) (threads : Semantics S) (me : ℕ) (s : Processor S) (label : Label) (makes : own_label setup threads me s ≡ Some label) where

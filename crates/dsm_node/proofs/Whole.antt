@@ -1,7 +1,7 @@
 -- What keeps a processor whole.
 use Rattle.std.proofs.Common.{◌≡◌, Result, Ok, Err, sym, subst}
 use Rattle.std.specs.Prelude.{OnOk}
-use Rattle.dsm_base.specs.Threads.{Semantics, StaysWithin}
+use Rattle.dsm_base.specs.Threads.{Kind, StaysWithin}
 use Rattle.dsm_trace.specs.Processor.{Processor}
 use Rattle.dsm_node.specs.Names.{KeepsNames}
 use Rattle.dsm_node.specs.Node.{processor_of, setup_of, IsShaped, IsWhole}
@@ -12,11 +12,11 @@ pub on_ok_both : {A E P Q R : Type 0} (result : Result A E) → (P → Q → R) 
 on_ok_both (Ok x) gives p q = gives p q
 on_ok_both (Err e) gives p q = tt
 
-module _ {T S : Type 0} (state : T → S) (threads : Semantics S) (old new : Node T S) (setup : setup_of new ≡ setup_of old) where
+module _ {T S : Type 0} (kind : Kind T S) (old new : Node T S) (setup : setup_of new ≡ setup_of old) where
   -- it has its shape, its thread stays within the setup, and what it keeps names what is of the setup
-  pub whole_from : (s : Processor S) → processor_of state new ≡ s → StaysWithin (setup_of old) threads s.thread → KeepsNames (setup_of old) s.mail s.locks → IsShaped new → IsWhole state threads new
+  pub whole_from : (s : Processor S) → processor_of kind new ≡ s → StaysWithin (setup_of old) kind.semantics s.thread → KeepsNames (setup_of old) s.mail s.locks → IsShaped new → IsWhole kind new
   whole_from s is stays names shape = record {
     shape = shape;
-    stays = rw setup (subst (λ (p : Processor S). StaysWithin (setup_of old) threads p.thread) (sym is) stays);
+    stays = rw setup (subst (λ (p : Processor S). StaysWithin (setup_of old) kind.semantics p.thread) (sym is) stays);
     names = rw setup (subst (λ (p : Processor S). KeepsNames (setup_of old) p.mail p.locks) (sym is) names);
   }

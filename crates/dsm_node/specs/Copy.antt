@@ -1,9 +1,8 @@
 -- The own copy of the cells.
 use Rattle.std.specs.Prelude.{ℕ, ℤ, pos, ◌<◌, List}
 use Rattle.std.specs.List.{All}
-use Rattle.dsm_base.specs.declared.label.Label.{Label}
 use Rattle.dsm_trace.specs.declared.message.CellValue.{CellValue}
-use Rattle.dsm_node.specs.Families.{family_of}
+use Rattle.dsm_base.specs.Family.{family_of}
 
 -- the value of each cell
 abbrev pub copy_of : List ℤ → ℕ → ℤ
@@ -12,8 +11,3 @@ copy_of values = family_of (λ _. pos 0) values
 -- they are all cells of so many
 abbrev pub AreCells : ℕ → List CellValue → Type 0
 AreCells count cells = All (λ item. item.cell.0 < count) cells
-
--- a store goes to one of so many cells
-abbrev pub WritesCells : ℕ → Label → Type 0
-WritesCells count (Label.Store cell value) = cell.0 < count
-WritesCells count _ = Unit {0}

@@ -2,7 +2,7 @@
 use Rattle.std.specs.Prelude.{◌≡◌, ℕ, length}
 use Rattle.dsm_trace.specs.declared.lock.LockState.{LockState}
 use Rattle.dsm_trace.specs.Locks.{start_lock}
-use Rattle.dsm_node.specs.Families.{family_of}
+use Rattle.dsm_base.specs.Family.{family_of}
 use Rattle.dsm_node.specs.declared.home.Home.{Home}
 
 -- the state of each lock

@@ -1,16 +1,9 @@
 -- Where the cells are bound.
-use Rattle.std.specs.Prelude.{◌≡◌, ℕ, ◌<◌, Bool, if◌then◌else◌, List, [], ◌∷◌, length, map, Option, None}
+use Rattle.std.specs.Prelude.{◌≡◌, ℕ, ◌<◌, Bool, if◌then◌else◌, List, [], ◌∷◌, length, map}
 use Rattle.std.specs.List.{slice_index_or}
 use Rattle.dsm_base.specs.declared.names.Cell.{Cell}
-use Rattle.dsm_base.specs.declared.setup.Piece.{Piece}
 use Rattle.dsm_base.specs.declared.setup.Setup.{Setup}
-use Rattle.dsm_base.specs.Access.{piece_of}
 use Rattle.dsm_trace.specs.Locks.{cells_of}
-
--- the piece of each cell of the setup
-pub record HasPieces (setup : Setup) (pieces : List (Option Piece)) : Type 0 where
-  pub count : length pieces ≡ setup.cells
-  pub piece : (cell : ℕ) → cell < setup.cells → slice_index_or pieces cell None ≡ piece_of setup.bindings cell
 
 -- a list of one where a test passes
 abbrev pub one_if : {A : Type 0} → Bool → A → List A

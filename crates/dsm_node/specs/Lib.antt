@@ -1,7 +1,5 @@
-pub mod Families
 pub mod Copy
-pub mod Holds
-pub mod Barriers
+pub mod Versions
 pub mod Mailbox
 pub mod Layout
 pub mod Home

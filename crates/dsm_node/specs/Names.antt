@@ -7,9 +7,8 @@ use Rattle.dsm_trace.specs.declared.message.Body.{Body}
 use Rattle.dsm_trace.specs.declared.message.MailGrant.{MailGrant}
 use Rattle.dsm_trace.specs.declared.message.Msg.{Msg}
 use Rattle.dsm_trace.specs.declared.lock.LockState.{LockState}
-use Rattle.dsm_node.specs.Copy.{AreCells, WritesCells}
-use Rattle.dsm_node.specs.Holds.{TakesLocks}
-use Rattle.dsm_node.specs.Barriers.{PassesBarriers}
+use Rattle.dsm_base.specs.Labels.{WritesCells, TakesLocks, PassesBarriers}
+use Rattle.dsm_node.specs.Copy.{AreCells}
 
 -- a body names a lock of the setup, and cells of it
 abbrev pub BodyNames : Setup → Body → Type 0

@@ -5,7 +5,8 @@ ghost use Rattle.std.specs.List.{All};
 ghost use Rattle.dsm_base.specs.declared.label.Label.{Label};
 ghost use Rattle.dsm_trace.specs.Locks.{values_of};
 ghost use Rattle.dsm_trace.specs.Processor.{overlaid, copy_after};
-ghost use Rattle.dsm_node.specs.Copy.{copy_of, AreCells, WritesCells};
+ghost use Rattle.dsm_base.specs.Labels.{WritesCells};
+ghost use Rattle.dsm_node.specs.Copy.{copy_of, AreCells};
 
 use dsm_base::{Cell, Label, MemFault};
 use dsm_trace::{CellValue, CellValues};
@@ -16,7 +17,7 @@ use std::alloc::Global;
 pub type Values = Items<i64>;
 
 /// A zero for each cell.
-#[tactic(auto, using(crate::proofs::Families::family_of_replicate))]
+#[tactic(auto, using(dsm_base::proofs::Families::family_of_replicate))]
 pub fn zero_copy(alloc: Global, count: usize) -> Result<Values, MemFault>
     ensures zeros { IfOk result (λ copy. copy_of copy ≡ (λ cell. pos 0)) }
     ensures length { IfOk result (λ copy. length copy ≡ count) }
@@ -25,7 +26,7 @@ pub fn zero_copy(alloc: Global, count: usize) -> Result<Values, MemFault>
 }
 
 /// Lays these values over the copy.
-#[tactic(auto, using(crate::proofs::Families::family_of_set))]
+#[tactic(auto, using(dsm_base::proofs::Families::family_of_set))]
 fn overlay(copy: &mut Values, cells: &[CellValue])
     requires { AreCells (length copy.old) cells.now }
     ensures copy { copy_of copy.new ≡ overlaid (copy_of copy.old) cells.now }
@@ -37,7 +38,7 @@ fn overlay(copy: &mut Values, cells: &[CellValue])
 }
 
 /// What a turn leaves of the copy: a store sets its cell, and what a take brings is laid over it.
-#[tactic(auto, using(crate::proofs::Families::family_of_set))]
+#[tactic(auto, using(dsm_base::proofs::Families::family_of_set))]
 pub fn change_copy(copy: &mut Values, label: &Label, cells: &[CellValue])
     requires stored { WritesCells (length copy.old) label.now }
     requires brought { AreCells (length copy.old) cells.now }

@@ -3,8 +3,8 @@
 ghost use Rattle.std.specs.Prelude.{◌≡◌, IfOk, OnOk, ◌++◌, map};
 ghost use Rattle.dsm_trace.specs.Locks.{is_compatible, holder_of, granted_by_ask, asked, front_of, behind_front, without_holder, granted_by_give, given};
 
-use dsm_base::{MemFault, Mode, Proc};
-use dsm_trace::{CellValues, Holder, Holders, LockState, Queue, Waiting};
+use dsm_base::{Holder, Holders, MemFault, Mode, Proc, are_compatible};
+use dsm_trace::{CellValues, LockState, Queue, Waiting};
 use sqlite_items::Items;
 use std::alloc::Global;
 
@@ -13,7 +13,7 @@ fn is_compatible(holders: &[Holder], mode: Mode) -> bool
     ensures { result ≡ is_compatible holders.now mode }
 {
     for holder in holders {
-        if holder.mode == Mode::Excl || mode == Mode::Excl {
+        if !are_compatible(holder.mode, mode) {
             return false;
         }
     }

@@ -1,11 +1,11 @@
 //! The mailbox.
 
-ghost use Rattle.std.specs.Prelude.{◌≡◌, position, ◌==◌, OnOk, ◌++◌, ◌∷◌, []};
+ghost use Rattle.std.specs.Prelude.{◌≡◌, position, OnOk, ◌++◌, ◌∷◌, []};
 ghost use Rattle.std.specs.Option.{option_copied};
-ghost use Rattle.dsm_trace.specs.Processor.{grant_for, cells_in};
+ghost use Rattle.dsm_trace.specs.Processor.{is_grant_for, grant_for, cells_in};
 ghost use Rattle.dsm_node.specs.Mailbox.{later_grants};
 
-use dsm_base::MemFault;
+use dsm_base::{Lock, MemFault};
 use dsm_trace::{CellValues, MailGrant};
 use sqlite_items::Items;
 use std::alloc::Global;
@@ -26,19 +26,28 @@ impl Model for Mailbox {
     ghost view = { λ mailbox. mailbox.grants.items };
 }
 
-/// Where the grant for a turn is.
-fn place_of(grants: &[MailGrant], turn: u32) -> Option<usize>
-    ensures { result ≡ position (λ grant. grant.turn == turn) grants.now }
+/// Whether a grant is of this lock and for this turn.
+fn is_grant_for(grant: &MailGrant, lock: Lock, turn: u32) -> bool
+    ensures { result ≡ is_grant_for lock.0 turn grant.now }
 {
-    grants.iter().position(|grant| grant.turn == turn)
+    grant.lock == lock && grant.turn == turn
 }
 
-/// Takes out the grant for a turn.
-fn take_grant(grants: &mut Vec<MailGrant>, turn: u32) -> Option<MailGrant>
-    ensures grant { result ≡ grant_for turn grants.old.items }
+/// Where the grant of a lock for a turn is.
+fn place_of(grants: &[MailGrant], lock: Lock, turn: u32) -> Option<usize>
+    ensures { result ≡ position (is_grant_for lock.0 turn) grants.now }
+{
+    grants
+        .iter()
+        .position(|grant| is_grant_for(grant, lock, turn))
+}
+
+/// Takes out the grant of a lock for a turn.
+fn take_grant(grants: &mut Vec<MailGrant>, lock: Lock, turn: u32) -> Option<MailGrant>
+    ensures grant { result ≡ grant_for turn grants.old.items lock.0 }
     ensures later { later_grants turn grants.new.items ≡ later_grants turn grants.old.items }
 {
-    let place = place_of(grants.as_slice(), turn)?;
+    let place = place_of(grants.as_slice(), lock, turn)?;
     Some(grants.remove(place))
 }
 
@@ -67,19 +76,21 @@ impl Mailbox {
         Ok(())
     }
 
-    /// The grant for a turn.
-    pub fn grant_for(&self, turn: u32) -> Option<&MailGrant>
-        ensures { option_copied result ≡ grant_for turn self.now }
+    /// The grant of a lock for a turn.
+    pub fn grant_for(&self, lock: Lock, turn: u32) -> Option<&MailGrant>
+        ensures { option_copied result ≡ grant_for turn self.now lock.0 }
     {
-        self.grants.iter().find(|grant| grant.turn == turn)
+        self.grants
+            .iter()
+            .find(|grant| is_grant_for(grant, lock, turn))
     }
 
-    /// Takes the cells of the grant for a turn; the grants for later turns are kept.
-    pub fn collect(&mut self, alloc: Global, turn: u32) -> CellValues
-        ensures cells { result ≡ cells_in (grant_for turn self.old) }
+    /// Takes the cells of the grant of a lock for a turn; the grants for later turns are kept.
+    pub fn collect(&mut self, alloc: Global, lock: Lock, turn: u32) -> CellValues
+        ensures cells { result ≡ cells_in (grant_for turn self.old lock.0) }
         ensures kept { self.new ≡ later_grants turn self.old }
     {
-        let cells = match take_grant(&mut self.grants, turn) {
+        let cells = match take_grant(&mut self.grants, lock, turn) {
             None => Items::new(alloc),
             Some(MailGrant { cells, .. }) => cells,
         };

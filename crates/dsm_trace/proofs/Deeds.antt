@@ -6,6 +6,7 @@ use Rattle.dsm_base.specs.declared.names.Mode.{Mode}
 use Rattle.dsm_base.specs.declared.label.Label.{Label}
 use Rattle.dsm_base.specs.declared.setup.Setup.{Setup}
 use Rattle.dsm_base.specs.Family.{update}
+use Rattle.dsm_base.specs.Endings.{ending_after}
 use Rattle.dsm_base.specs.Threads.{Semantics, state_after}
 use Rattle.dsm_base.specs.Plain.{Turn, labels_of, held_after, arrived_after, crossed_after}
 use Rattle.dsm_trace.specs.declared.message.Body.{Body}
@@ -15,7 +16,7 @@ use Rattle.dsm_trace.specs.declared.lock.LockState.{LockState}
 use Rattle.dsm_trace.specs.declared.trace.Rec.{Rec}
 use Rattle.dsm_trace.specs.declared.trace.Group.{Group}
 use Rattle.dsm_trace.specs.Locks.{home_of}
-use Rattle.dsm_trace.specs.Processor.{Processor, Deed, start_processor, processor_after, copy_after, own_versions_after, ending_after}
+use Rattle.dsm_trace.specs.Processor.{Processor, Deed, start_processor, processor_after, copy_after, own_versions_after}
 use Rattle.dsm_trace.specs.Effects.{handled, told_home, turned, body_of, lock_in}
 use Rattle.dsm_trace.specs.Told.{Told, delivered, told_record, told_records, told_by}
 use Rattle.dsm_trace.specs.History.{turns_onto, history, deeds_onto, deeds_of, own_copy, deed_labels, ending_of}

@@ -51,6 +51,7 @@ next_by_delivery t p q (letter ∷ others) =
 abbrev pub next_told : {S : Type 0} → Setup → Semantics S → Told S → Act → Told S
 next_told setup threads t (Act.Step p) = next_by_step setup threads t p.0 (own_turn setup threads p.0 (t.processors p.0))
 next_told setup threads t (Act.Deliver p q) = next_by_delivery t p.0 q.0 (t.under_way p.0 q.0)
+next_told setup threads t _ = t
 
 -- The records of a unit leave that.
 
@@ -95,6 +96,11 @@ module _ {S : Type 0} (setup : Setup) (threads : Semantics S) where
   pub told_unit : (t : Told S) (act : Act) → IsNumbered t → told_records setup threads t (unit_records setup threads t act) ≡ next_told setup threads t act
   told_unit t (Act.Step p) h = told_step t p.0 (own_turn setup threads p.0 (t.processors p.0))
   told_unit t (Act.Deliver p q) h = told_delivery t p.0 q.0 (t.under_way p.0 q.0) refl h
+  told_unit t (Act.Ckpt p) h = refl
+  told_unit t (Act.Block p) h = refl
+  told_unit t (Act.Crash p) h = refl
+  told_unit t (Act.Torn p bytes) h = refl
+  told_unit t (Act.Restart p) h = refl
 
 -- Numbers stay right.
 
@@ -123,6 +129,11 @@ module _ {S : Type 0} (setup : Setup) (threads : Semantics S) where
   pub unit_numbered : (t : Told S) (act : Act) → IsNumbered t → IsNumbered (next_told setup threads t act)
   unit_numbered t (Act.Step p) h = step_numbered t p.0 (own_turn setup threads p.0 (t.processors p.0)) h
   unit_numbered t (Act.Deliver p q) h = delivery_numbered t p.0 q.0 (t.under_way p.0 q.0) refl h
+  unit_numbered t (Act.Ckpt p) h = h
+  unit_numbered t (Act.Block p) h = h
+  unit_numbered t (Act.Crash p) h = h
+  unit_numbered t (Act.Torn p bytes) h = h
+  unit_numbered t (Act.Restart p) h = h
 
 -- A trace with one more unit.
 
@@ -161,7 +172,7 @@ with_deed p (Some deed) run = record { proc = p; label = deed.label } ∷ run
 -- the history once a unit is over
 abbrev pub next_history : {S : Type 0} → Setup → Semantics S → Told S → Act → List Turn → List Turn
 next_history setup threads t (Act.Step p) run = with_deed p.0 (own_turn setup threads p.0 (t.processors p.0)) run
-next_history setup threads t (Act.Deliver p q) run = run
+next_history setup threads t _ run = run
 
 module _ {S : Type 0} (setup : Setup) (first : ℕ → S) (threads : Semantics S) where
   turns_step : (t : Told S) (p : ℕ) (deed : Option Deed) (run : List Turn) → turns_onto run (step_records setup threads t p deed) ≡ with_deed p deed run
@@ -176,6 +187,11 @@ module _ {S : Type 0} (setup : Setup) (first : ℕ → S) (threads : Semantics S
   pub turns_unit : (t : Told S) (act : Act) (run : List Turn) → turns_onto run (unit_records setup threads t act) ≡ next_history setup threads t act run
   turns_unit t (Act.Step p) run = turns_step t p.0 (own_turn setup threads p.0 (t.processors p.0)) run
   turns_unit t (Act.Deliver p q) run = turns_delivery t q.0 (t.under_way p.0 q.0) run
+  turns_unit t (Act.Ckpt p) run = refl
+  turns_unit t (Act.Block p) run = refl
+  turns_unit t (Act.Crash p) run = refl
+  turns_unit t (Act.Torn p bytes) run = refl
+  turns_unit t (Act.Restart p) run = refl
 
   history_with : (unit : ℕ) (rs : List Rec) (before : List Group) → history (with_unit unit rs before) ≡ turns_onto (history before) rs
   history_with unit [] before = refl

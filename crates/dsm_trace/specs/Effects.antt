@@ -23,6 +23,7 @@ pub record Effect (S : Type 0) : Type 0 where
 abbrev pub processor_named : ℕ → Proc
 processor_named p = record { 0 = p }
 
+-- a message of a turn
 abbrev pub message : ℕ → ℕ → ℕ → Body → Msg
 message from to turn body = record { from = processor_named from; to = processor_named to; carry = record { turn = turn }; body = body }
 
@@ -30,6 +31,7 @@ message from to turn body = record { from = processor_named from; to = processor
 abbrev pub own_grant : Lock → LockState → Waiting → MailGrant
 own_grant lock state waiting = record { turn = waiting.turn; lock = lock; mode = waiting.mode; version = state.version; cells = state.cells }
 
+-- a grant that is sent
 abbrev pub grant_message : ℕ → ℕ → Lock → LockState → Waiting → Msg
 grant_message me turn lock state waiting =
     message me waiting.proc.0 turn (Body.Grant lock waiting.mode waiting.turn state.version state.cells)

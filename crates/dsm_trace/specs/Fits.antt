@@ -12,6 +12,11 @@ use Rattle.dsm_trace.specs.Rows.{unit_records}
 abbrev pub IsWithin : Setup → Act → Type 0
 IsWithin setup (Act.Step p) = p.0 < setup.procs
 IsWithin setup (Act.Deliver p q) = (p.0 < setup.procs) × (q.0 < setup.procs) × (p.0 ≢ q.0)
+IsWithin setup (Act.Ckpt p) = p.0 < setup.procs
+IsWithin setup (Act.Block p) = p.0 < setup.procs
+IsWithin setup (Act.Crash p) = p.0 < setup.procs
+IsWithin setup (Act.Torn p bytes) = p.0 < setup.procs
+IsWithin setup (Act.Restart p) = p.0 < setup.procs
 
 -- a trace with the records of one more unit; a unit without records adds no group
 abbrev pub with_unit : ℕ → List Rec → List Group → List Group

@@ -5,7 +5,8 @@ use Rattle.dsm_base.specs.declared.label.Ending.{Ending}
 use Rattle.dsm_base.specs.Plain.{Turn}
 use Rattle.dsm_trace.specs.declared.trace.Rec.{Rec}
 use Rattle.dsm_trace.specs.declared.trace.Group.{Group}
-use Rattle.dsm_trace.specs.Processor.{Deed, copy_after, ending_after}
+use Rattle.dsm_base.specs.Endings.{ending_after}
+use Rattle.dsm_trace.specs.Processor.{Deed, copy_after}
 
 -- the turns that records tell of, onto those before
 abbrev pub turns_onto : List Turn → List Rec → List Turn

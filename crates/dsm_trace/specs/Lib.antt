@@ -6,3 +6,4 @@ pub mod Rows
 pub mod Fits
 pub mod History
 pub mod OneMemory
+pub mod Groups

@@ -6,8 +6,9 @@ use Rattle.dsm_base.specs.declared.setup.Object.{Object}
 use Rattle.dsm_base.specs.declared.setup.Piece.{Piece}
 use Rattle.dsm_base.specs.declared.setup.Setup.{Setup}
 use Rattle.dsm_base.specs.Access.{piece_of}
+use Rattle.dsm_base.specs.Holders.{are_compatible}
 use Rattle.dsm_trace.specs.declared.message.CellValue.{CellValue}
-use Rattle.dsm_trace.specs.declared.lock.Holder.{Holder}
+use Rattle.dsm_base.specs.declared.holders.Holder.{Holder}
 use Rattle.dsm_trace.specs.declared.lock.Waiting.{Waiting}
 use Rattle.dsm_trace.specs.declared.lock.LockState.{LockState}
 
@@ -35,16 +36,10 @@ values_of memory cells = map (λ cell. record { cell = record { 0 = cell }; valu
 abbrev pub start_lock : Setup → ℕ → LockState
 start_lock setup lock = record { holders = []; queue = []; version = 0; cells = values_of (λ _. pos 0) (cells_of setup lock) }
 
--- two holds of one lock are only possible where both are shared
-abbrev pub are_shared : Mode → Mode → Bool
-are_shared Mode.Shared Mode.Shared = true
-are_shared Mode.Shared Mode.Excl = false
-are_shared Mode.Excl other = false
-
 -- whether a request in this mode may be granted beside the holders
 abbrev pub is_compatible : List Holder → Mode → Bool
 is_compatible [] mode = true
-is_compatible (holder ∷ holders) mode = are_shared holder.mode mode && is_compatible holders mode
+is_compatible (holder ∷ holders) mode = are_compatible holder.mode mode && is_compatible holders mode
 
 abbrev pub holder_of : Waiting → Holder
 holder_of waiting = record { proc = waiting.proc; mode = waiting.mode }

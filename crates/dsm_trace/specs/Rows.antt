@@ -36,6 +36,8 @@ delivery_records t q (letter ∷ others) =
     Rec.Delivered letter.number
     ∷ sent_records t.sent (handled q (t.processors q) letter.msg.from.0 letter.msg.carry.turn letter.msg.body).sends
 
+-- what a unit adds to the trace; images, crashes and restarts aren't built yet, and add nothing
 abbrev pub unit_records : {S : Type 0} → Setup → Semantics S → Told S → Act → List Rec
 unit_records setup threads t (Act.Step p) = step_records setup threads t p.0 (own_turn setup threads p.0 (t.processors p.0))
 unit_records setup threads t (Act.Deliver p q) = delivery_records t q.0 (t.under_way p.0 q.0)
+unit_records setup threads t _ = []

@@ -10,12 +10,14 @@ use Rattle.dsm_trace.specs.declared.trace.Group.{Group}
 use Rattle.dsm_trace.specs.Processor.{Processor, start_processor}
 use Rattle.dsm_trace.specs.Effects.{turned, handled}
 
+-- what a trace tells
 pub record Told (S : Type 0) : Type 0 where
   pub processors : ℕ → Processor S
   pub messages : ℕ → Option Msg  -- by number
   pub under_way : ℕ → ℕ → List Letter  -- by sender and receiver, the oldest first
   pub sent : ℕ  -- how many messages were sent
 
+-- what an empty trace tells
 abbrev pub start_told : {S : Type 0} → Setup → (ℕ → S) → Told S
 start_told setup first = record {
   processors = start_processor setup first;
@@ -29,6 +31,7 @@ abbrev pub without : ℕ → List Letter → List Letter
 without number [] = []
 without number (letter ∷ letters) = if letter.number == number then letters else letter ∷ without number letters
 
+-- a message of this number is sent
 abbrev pub with_message : {S : Type 0} → Told S → ℕ → Msg → Told S
 with_message t number msg = record t {
   messages = update t.messages number (Some msg);

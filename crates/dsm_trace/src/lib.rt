@@ -5,6 +5,6 @@ mod lock;
 mod message;
 mod trace;
 
-pub use lock::{Holder, Holders, LockState, Queue, Waiting};
+pub use lock::{LockState, Queue, Waiting};
 pub use message::{Body, Carry, CellValue, CellValues, Letter, MailGrant, Msg, Sends};
 pub use trace::{Group, Rec, Records, Trace};

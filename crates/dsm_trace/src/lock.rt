@@ -1,18 +1,8 @@
 //! The state of a lock at its home.
 
 use crate::message::CellValues;
-use dsm_base::{Mode, Proc};
+use dsm_base::{Holders, Mode, Proc};
 use sqlite_items::Items;
-
-/// Who holds a lock, or was granted it, and how.
-#[derive(Clone, Copy, Debug, PartialEq, Eq)]
-pub struct Holder {
-    pub proc: Proc,
-    pub mode: Mode,
-}
-
-/// The holders in the order in which they were granted the lock.
-pub type Holders = Items<Holder>;
 
 /// Who waits for a lock, and in which turn it would be taken.
 #[derive(Clone, Copy, Debug, PartialEq, Eq)]
@@ -28,6 +18,7 @@ pub type Queue = Items<Waiting>;
 /// What a lock's home knows of it.
 #[derive(Debug, Drop)]
 pub struct LockState {
+    /// In the order in which they were granted the lock.
     pub holders: Holders,
     pub queue: Queue,
     /// How many exclusive holds were given back.

@@ -1,6 +1,6 @@
 //! Traces: what happened in each unit.
 
-ghost use Rattle.std.specs.Prelude.{◌≡◌, [], ◌∷◌, ◌++◌, length, OnOk, OnErr};
+ghost use Rattle.std.specs.Prelude.{◌≡◌, ◌≢◌, [], ◌∷◌, ◌++◌, length, OnOk, OnErr};
 
 use crate::message::{CellValues, Msg};
 use dsm_base::{Label, MemFault, Proc, Text};
@@ -57,10 +57,16 @@ impl Model for Trace {
 
     ghost Value = { List Group };
 
+    ghost use Rattle.dsm_trace.specs.Groups.{AreSome};
+
     ghost view = { λ trace. trace.groups.items };
+
+    ghost invariant = { λ trace. AreSome trace.groups.items };
 }
 
 impl Trace {
+    ghost use Rattle.dsm_trace.specs.Groups.{AreSome};
+
     /// The trace of no unit.
     pub fn new(alloc: Global) -> Trace
         ensures { result ≡ [] }
@@ -70,8 +76,9 @@ impl Trace {
         }
     }
 
-    /// Adds what happened in the next unit in which something did.
+    /// Adds what happened in the next unit in which something did. `MemFault` comes out of memory.
     pub fn push(&mut self, group: Group) -> Result<(), MemFault>
+        requires { group.records ≢ [] }
         ensures ok { OnOk result (self.new ≡ self.old ++ group ∷ []) }
         ensures err { OnErr result (self.new ≡ self.old) }
     {
@@ -79,8 +86,10 @@ impl Trace {
         Ok(())
     }
 
+    /// The groups, none of them empty.
     pub fn groups(&self) -> &[Group]
-        ensures { result.now ≡ self.now }
+        ensures groups { result.now ≡ self.now }
+        ensures some { AreSome self.now }
     {
         self.groups.as_slice()
     }

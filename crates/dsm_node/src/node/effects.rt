@@ -52,8 +52,8 @@ impl<T: Task> Node<T> {
     ) -> Result<Sends, MemFault>
         requires shape { IsShaped self.old }
         requires lock { lock.0 < (setup_of self.old).locks }
-        ensures sends { IfOk result (λ sends. sends ≡ (handled (me_of self.old) (processor_of T.state self.old) from.0 turn (Body.Req lock mode)).sends) }
-        ensures processor { OnOk result (processor_of T.state self.new ≡ (handled (me_of self.old) (processor_of T.state self.old) from.0 turn (Body.Req lock mode)).processor) }
+        ensures sends { IfOk result (λ sends. sends ≡ (handled (me_of self.old) (processor_of T.kind self.old) from.0 turn (Body.Req lock mode)).sends) }
+        ensures processor { OnOk result (processor_of T.kind self.new ≡ (handled (me_of self.old) (processor_of T.kind self.old) from.0 turn (Body.Req lock mode)).processor) }
         ensures shape { OnOk result (IsShaped self.new) }
         ensures same { IsSameNode self.old self.new }
     {
@@ -74,8 +74,8 @@ impl<T: Task> Node<T> {
     ) -> Result<Sends, MemFault>
         requires shape { IsShaped self.old }
         requires lock { lock.0 < (setup_of self.old).locks }
-        ensures sends { IfOk result (λ sends. sends ≡ (handled (me_of self.old) (processor_of T.state self.old) from.0 0 (Body.Release lock mode version cells.now)).sends) }
-        ensures processor { OnOk result (processor_of T.state self.new ≡ (handled (me_of self.old) (processor_of T.state self.old) from.0 0 (Body.Release lock mode version cells.now)).processor) }
+        ensures sends { IfOk result (λ sends. sends ≡ (handled (me_of self.old) (processor_of T.kind self.old) from.0 0 (Body.Release lock mode version cells.now)).sends) }
+        ensures processor { OnOk result (processor_of T.kind self.new ≡ (handled (me_of self.old) (processor_of T.kind self.old) from.0 0 (Body.Release lock mode version cells.now)).processor) }
         ensures shape { OnOk result (IsShaped self.new) }
         ensures same { IsSameNode self.old self.new }
     {
@@ -88,8 +88,8 @@ impl<T: Task> Node<T> {
     fn dispatch(&mut self, from: Proc, turn: u32, body: &Body) -> Result<Sends, MemFault>
         requires shape { IsShaped self.old }
         requires lock { (lock_in body.now).0 < (setup_of self.old).locks }
-        ensures sends { IfOk result (λ sends. sends ≡ (handled (me_of self.old) (processor_of T.state self.old) from.0 turn body.now).sends) }
-        ensures processor { OnOk result (processor_of T.state self.new ≡ (handled (me_of self.old) (processor_of T.state self.old) from.0 turn body.now).processor) }
+        ensures sends { IfOk result (λ sends. sends ≡ (handled (me_of self.old) (processor_of T.kind self.old) from.0 turn body.now).sends) }
+        ensures processor { OnOk result (processor_of T.kind self.new ≡ (handled (me_of self.old) (processor_of T.kind self.old) from.0 turn body.now).processor) }
         ensures shape { OnOk result (IsShaped self.new) }
         ensures same { IsSameNode self.old self.new }
     {
@@ -122,12 +122,12 @@ impl<T: Task> Node<T> {
 
     /// The same, by the definitions over all that a processor keeps.
     fn handle(&mut self, from: Proc, turn: u32, body: &Body) -> Result<Sends, MemFault>
-        requires whole { IsWhole T.state T.semantics self.old }
+        requires whole { IsWhole T.kind self.old }
         requires from { from.0 < (setup_of self.old).procs }
         requires names { BodyNames (setup_of self.old) body.now }
-        ensures sends { IfOk result (λ sends. sends ≡ (handled (me_of self.old) (processor_of T.state self.old) from.0 turn body.now).sends) }
-        ensures processor { OnOk result (processor_of T.state self.new ≡ (handled (me_of self.old) (processor_of T.state self.old) from.0 turn body.now).processor) }
-        ensures whole { OnOk result (IsWhole T.state T.semantics self.new) }
+        ensures sends { IfOk result (λ sends. sends ≡ (handled (me_of self.old) (processor_of T.kind self.old) from.0 turn body.now).sends) }
+        ensures processor { OnOk result (processor_of T.kind self.new ≡ (handled (me_of self.old) (processor_of T.kind self.old) from.0 turn body.now).processor) }
+        ensures whole { OnOk result (IsWhole T.kind self.new) }
         ensures within { IfOk result (All (IsSendOf (setup_of self.old) (me_of self.old))) }
         ensures same { IsSameNode self.old self.new }
     {
@@ -136,11 +136,11 @@ impl<T: Task> Node<T> {
 
     /// Tells a home: it handles the body at once where it is this processor, and else is sent it.
     pub(super) fn tell_home(&mut self, body: Option<Body>) -> Result<Sends, MemFault>
-        requires whole { IsWhole T.state T.semantics self.old }
+        requires whole { IsWhole T.kind self.old }
         requires names { IfSome body (BodyNames (setup_of self.old)) }
-        ensures sends { IfOk result (λ sends. sends ≡ (told_home (setup_of self.old) (me_of self.old) (processor_of T.state self.old) body).sends) }
-        ensures processor { OnOk result (processor_of T.state self.new ≡ (told_home (setup_of self.old) (me_of self.old) (processor_of T.state self.old) body).processor) }
-        ensures whole { OnOk result (IsWhole T.state T.semantics self.new) }
+        ensures sends { IfOk result (λ sends. sends ≡ (told_home (setup_of self.old) (me_of self.old) (processor_of T.kind self.old) body).sends) }
+        ensures processor { OnOk result (processor_of T.kind self.new ≡ (told_home (setup_of self.old) (me_of self.old) (processor_of T.kind self.old) body).processor) }
+        ensures whole { OnOk result (IsWhole T.kind self.new) }
         ensures within { IfOk result (All (IsSendOf (setup_of self.old) (me_of self.old))) }
         ensures same { IsSameNode self.old self.new }
     {
@@ -175,13 +175,13 @@ impl<T: Task> Node<T> {
     /// Handles a message. Answers the messages that it sends for it. `MemFault` for want of memory,
     /// or where a turn doesn't fit its number; the processor is then of no more use.
     pub fn receive(&mut self, msg: &Msg) -> Result<Sends, MemFault>
-        requires whole { IsWhole T.state T.semantics self.old }
+        requires whole { IsWhole T.kind self.old }
         requires to { msg.now.to.0 ≡ me_of self.old }
         requires from { msg.now.from.0 < (setup_of self.old).procs }
         requires names { BodyNames (setup_of self.old) msg.now.body }
-        ensures sends { IfOk result (λ sends. sends ≡ (handled (me_of self.old) (processor_of T.state self.old) msg.now.from.0 msg.now.carry.turn msg.now.body).sends) }
-        ensures processor { OnOk result (processor_of T.state self.new ≡ (handled (me_of self.old) (processor_of T.state self.old) msg.now.from.0 msg.now.carry.turn msg.now.body).processor) }
-        ensures whole { OnOk result (IsWhole T.state T.semantics self.new) }
+        ensures sends { IfOk result (λ sends. sends ≡ (handled (me_of self.old) (processor_of T.kind self.old) msg.now.from.0 msg.now.carry.turn msg.now.body).sends) }
+        ensures processor { OnOk result (processor_of T.kind self.new ≡ (handled (me_of self.old) (processor_of T.kind self.old) msg.now.from.0 msg.now.carry.turn msg.now.body).processor) }
+        ensures whole { OnOk result (IsWhole T.kind self.new) }
         ensures within { IfOk result (All (IsSendOf (setup_of self.old) (me_of self.old))) }
         ensures same { IsSameNode self.old self.new }
     {

@@ -1,6 +1,6 @@
 use Rattle.std.proofs.Common.{◌≡◌, ℕ, length}
 use Rattle.dsm_trace.specs.Locks.{start_lock}
-use Rattle.dsm_node.specs.Families.{family_of}
+use Rattle.dsm_base.specs.Family.{family_of}
 use Rattle.dsm_node.proofs.home.Home.start.Given as goal
 
 -- the locks gone over are as they begin

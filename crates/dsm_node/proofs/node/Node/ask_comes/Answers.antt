@@ -9,7 +9,7 @@ use Rattle.dsm_node.proofs.node.Node.ask_comes.Goals as goal
 
 pub returns-clause-sends : goal.returns-clause-sends
 returns-clause-sends g c =
-    let s = processor_of g.T.Task.state c.args.self.now in
+    let s = processor_of g.T.Task.kind c.args.self.now in
     let lock = s.locks c.args.lock.0 in
     let waiting = waiting_of c.args.from.0 c.args.turn c.args.mode in
     IfOk-weaker c.send_grants.result _ _
@@ -21,7 +21,7 @@ returns-clause-sends g c =
 
 pub returns-clause-processor : goal.returns-clause-processor
 returns-clause-processor g c =
-    let s = processor_of g.T.Task.state c.args.self.now in
+    let s = processor_of g.T.Task.kind c.args.self.now in
     let lock = s.locks c.args.lock.0 in
     let waiting = waiting_of c.args.from.0 c.args.turn c.args.mode in
     on_ok_weaker c.send_grants.result

@@ -14,9 +14,9 @@ advance-requires-clause-brought g c =
 pub returns-clause-whole : goal.returns-clause-whole
 returns-clause-whole g c =
     let old = c.args.self.now in
-    let s = processor_of g.T.Task.state old in
-    let threads = g.T.Task.semantics in
-    whole_from g.T.Task.state threads old c.advance.new.self (c.in_ok-advance.ensures.same.setup ∙ c.collect-cells.ensures.same.setup) (turned_processor threads s c.args.label.now) (search rules)
+    let s = processor_of g.T.Task.kind old in
+    let threads = g.T.Task.kind.semantics in
+    whole_from g.T.Task.kind old c.advance.new.self (c.in_ok-advance.ensures.same.setup ∙ c.collect-cells.ensures.same.setup) (turned_processor threads s c.args.label.now) (search rules)
     (stays_after (setup_of old) threads s.thread c.args.label.now c.requires.whole.stays)
     (mail_after_names (setup_of old) (s.turns + 1) s.mail s.locks c.args.label.now c.requires.whole.names)
     c.in_ok-advance.ensures.shape

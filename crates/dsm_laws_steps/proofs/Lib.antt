@@ -1,0 +1,4 @@
+pub mod Bound
+pub mod Steps
+pub mod Copies
+mod Example
