@@ -21,14 +21,14 @@ use Rattle.dsm_net.specs.Turns.{OwnTurn, own_after, mail_after, dirty_lines}
 use Rattle.dsm_net.specs.Messages.{processor_named, keeper_of, message, with_carry}
 use Rattle.dsm_net.specs.Grants.{home_after_grants, grant_messages}
 
--- what a processor is after it has done something, and what it does in that unit, in this order: lines go out that came with a message; messages; whether its replay ended, and what it sends then; own lines go out; and a Note
+-- what a processor does in a unit, its parts in this order
 pub record Effect (S : Type 0) : Type 0 where
-  pub processor : Processor S
-  pub carried : List PendingLine
+  pub processor : Processor S  -- as it is then
+  pub carried : List PendingLine  -- the lines that came with a message go out
   pub sends : List Msg
-  pub replayed : Bool
-  pub rebuilt : List Msg
-  pub outs : List PendingLine
+  pub replayed : Bool  -- its replay ends
+  pub rebuilt : List Msg  -- what it sends then
+  pub outs : List PendingLine  -- own lines go out
   pub note : Option Msg
 
 abbrev pub only : {S : Type 0} → Processor S → List Msg → Effect S

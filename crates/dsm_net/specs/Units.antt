@@ -1,5 +1,5 @@
--- What one unit makes of what the world holds, and its records. In a unit its parts go on one after the other, and each adds its records.
-use Rattle.std.specs.Prelude.{ℕ, ◌+◌, List, [], ◌∷◌, ◌++◌, if◌then◌else◌, Option, Some, None}
+-- What one unit makes of what the world holds, and its records. Its parts go on one after the other, and each adds its records.
+use Rattle.std.specs.Prelude.{ℕ, ◌+◌, List, [], ◌∷◌, ◌++◌, if◌then◌else◌, nat_lt, Option, Some, None}
 use Rattle.dsm_base.specs.declared.act.Act.{Act}
 use Rattle.dsm_base.specs.declared.lists.PendingLine.{PendingLine}
 use Rattle.dsm_base.specs.declared.setup.Setup.{Setup}
@@ -55,11 +55,13 @@ abbrev pub with_messages : {S : Type 0} → Made S → List Msg → Made S
 with_messages unit [] = unit
 with_messages unit (msg ∷ others) = with_messages (with_message unit msg) others
 
--- a line of p goes out
+-- a line of p goes out, where it isn't out already
 abbrev pub with_line_out : {S : Type 0} → Made S → ℕ → PendingLine → Made S
 with_line_out unit p line =
-    then_made unit (record unit.net { out = update unit.net.out p line.turn })
+    if nat_lt (unit.net.out p) line.turn
+    then then_made unit (record unit.net { out = update unit.net.out p line.turn })
     (Rec.Out (processor_named p) line.turn line.text ∷ [])
+    else unit
 
 abbrev pub with_lines_out : {S : Type 0} → Made S → ℕ → List PendingLine → Made S
 with_lines_out unit p [] = unit
