@@ -1,0 +1,25 @@
+//! Laws of the protocol: what holds after each unit of the processors and of the messages under way,
+//! in terms of the trace and of the threads alone.
+#![tactic(auto)]
+
+ghost use Rattle.std.specs.Prelude.{◌≡◌, ℕ, List};
+ghost use Rattle.dsm_base.specs.declared.act.Act.{Act};
+ghost use Rattle.dsm_base.specs.declared.setup.Setup.{Setup};
+ghost use Rattle.dsm_base.specs.Plain.{labels_of};
+ghost use Rattle.dsm_net.specs.declared.trace.Group.{Group};
+ghost use Rattle.dsm_net.specs.Fits.{FitsUnits, run_of};
+ghost use Rattle.dsm_net.specs.Story.{history, own_turns_of, labels_of_turns};
+ghost use Rattle.dsm_laws_protocol.specs.OwnParts.{HasOwnParts};
+
+use dsm_base::Task;
+
+/// What a processor that is up has of its own is what its turns in the trace leave, and these turns
+/// are its part of the history.
+pub fn own_parts<T: Task>()
+    ensures own { (setup : Setup) (first : ℕ → T.State) (acts : List Act) (trace : List Group)
+        (fits : FitsUnits setup first T.kind.semantics acts trace) →
+        HasOwnParts setup first T.kind.semantics
+        (run_of setup first T.kind.semantics fits.done).net trace }
+    ensures labels { (trace : List Group) (p : ℕ) →
+        labels_of_turns (own_turns_of p trace) ≡ labels_of p (history trace) }
+{}
