@@ -2,7 +2,6 @@
 use Rattle.std.specs.Prelude.{◌≡◌, ℕ, ◌+◌, Bool, true, false, ◌==◌, if◌then◌else◌, nat_lt, List, [], ◌∷◌, ◌++◌, Option, Some, None}
 use Rattle.std.proofs.Common.{refl, ◌∙◌}
 use Rattle.dsm_base.specs.declared.lists.PendingLine.{PendingLine}
-use Rattle.dsm_base.specs.Family.{update}
 use Rattle.dsm_msg.specs.declared.message.Msg.{Msg}
 use Rattle.dsm_net.specs.declared.trace.Rec.{Rec}
 use Rattle.dsm_net.specs.Processor.{Processor}

@@ -1,3 +1,5 @@
 pub mod Families
 pub mod Kept
+pub mod Runs
 pub mod OwnParts
+pub mod Waiting

@@ -1,1 +1,2 @@
 pub mod OwnParts
+pub mod Waiting

@@ -10,6 +10,7 @@ ghost use Rattle.dsm_net.specs.declared.trace.Group.{Group};
 ghost use Rattle.dsm_net.specs.Fits.{FitsUnits, run_of};
 ghost use Rattle.dsm_net.specs.Story.{history, own_turns_of, labels_of_turns};
 ghost use Rattle.dsm_laws_protocol.specs.OwnParts.{HasOwnParts};
+ghost use Rattle.dsm_laws_protocol.specs.Waiting.{NobodyWaitsInVain};
 
 use dsm_base::Task;
 
@@ -22,4 +23,12 @@ pub fn own_parts<T: Task>()
         (run_of setup first T.kind.semantics fits.done).net trace }
     ensures labels { (trace : List Group) (p : ℕ) →
         labels_of_turns (own_turns_of p trace) ≡ labels_of p (history trace) }
+{}
+
+/// After each unit every lock is granted to all to whom it may be: the first who waits can't hold it
+/// beside its holders.
+pub fn nobody_waits_in_vain<T: Task>()
+    ensures { (setup : Setup) (first : ℕ → T.State) (acts : List Act) (trace : List Group)
+        (fits : FitsUnits setup first T.kind.semantics acts trace) →
+        NobodyWaitsInVain (run_of setup first T.kind.semantics fits.done).net }
 {}
