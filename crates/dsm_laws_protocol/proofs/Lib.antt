@@ -1,3 +1,4 @@
+pub mod Courses
 pub mod Families
 pub mod Kept
 pub mod Runs

@@ -1,2 +1,4 @@
+pub mod Courses
 pub mod OwnParts
+pub mod Situations
 pub mod Waiting
