@@ -1,6 +1,14 @@
+pub mod Channels
 pub mod Courses
+pub mod Due
 pub mod Families
+pub mod Flows
+pub mod Holders
+pub mod Homes
 pub mod Kept
-pub mod Runs
 pub mod OwnParts
+pub mod Quiet
+pub mod Rights
+pub mod Runs
+pub mod Turns
 pub mod Waiting
