@@ -11,8 +11,12 @@ use Rattle.dsm_net.specs.Processor.{Processor}
 use Rattle.dsm_net.specs.Effects.{Effect}
 use Rattle.dsm_net.specs.Net.{Net}
 use Rattle.dsm_net.specs.Units.{Made, with_message_to, with_message, with_messages, with_line_out, with_lines_out, with_processor, with_effect}
-use Rattle.dsm_laws_protocol.specs.Nets.{grants_in, grants_said, said, AreUp}
+use Rattle.dsm_laws_protocol.specs.Worlds.{grants_in, grants_said, said}
 use Rattle.dsm_laws_protocol.proofs.Kept.{IsKept, messages_kept, lines_out_kept, effect_kept}
+
+-- these are the processors, and all are up
+abbrev pub AreUp : {S : Type 0} → Net S → (ℕ → Processor S) → Type 0
+AreUp net processors = (p : ℕ) → net.processors p ≡ Some (processors p)
 
 -- a message of p to q
 abbrev pub goes : ℕ → ℕ → Msg → Bool

@@ -3,9 +3,11 @@ pub mod Courses
 pub mod Due
 pub mod Families
 pub mod Flows
+pub mod Granting
 pub mod Holders
 pub mod Homes
 pub mod Kept
+pub mod Likeness
 pub mod OwnParts
 pub mod Quiet
 pub mod Rights

@@ -1,7 +1,7 @@
 pub mod Courses
 pub mod Due
 pub mod Flows
-pub mod Nets
 pub mod OwnParts
 pub mod Situations
 pub mod Waiting
+pub mod Worlds

@@ -38,17 +38,15 @@ grant_message setup me s lock one =
 abbrev pub is_of : ℕ → Waiting → Bool
 is_of p one = one.proc.0 == p
 
--- the home's own grants among these come to its mailbox
-abbrev pub with_own_grants : {S : Type 0} → Setup → ℕ → Processor S → Lock → List Waiting → Processor S
-with_own_grants setup me s lock granted = record s {
-  mail = record s.mail { grants = s.mail.grants ++ map (own_grant setup s lock) (filter (is_of me) granted) };
-}
-
--- the home once it has granted a lock to all to whom it may
+-- the home once it has granted a lock to all to whom it may; its own grant comes to its mailbox
 abbrev pub home_after_grants : {S : Type 0} → Setup → ℕ → Processor S → Lock → Processor S
-home_after_grants setup me s lock =
-    let after = record s { locks = update s.locks lock.0 (lock_after_grants (s.locks lock.0)) } in
-    with_own_grants setup me after lock (grants_of (s.locks lock.0))
+home_after_grants setup me s lock = record s {
+  locks = update s.locks lock.0 (lock_after_grants (s.locks lock.0));
+  mail = record s.mail {
+    grants = s.mail.grants
+        ++ map (own_grant setup s lock) (filter (is_of me) (grants_of (s.locks lock.0)));
+  };
+}
 
 -- the messages by which it does
 abbrev pub grant_messages : {S : Type 0} → Setup → ℕ → Processor S → Lock → List Msg
