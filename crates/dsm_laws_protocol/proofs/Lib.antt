@@ -14,3 +14,4 @@ pub mod Rights
 pub mod Runs
 pub mod Turns
 pub mod Waiting
+pub mod Worlds
