@@ -6,6 +6,7 @@ pub mod Flows
 pub mod Granting
 pub mod Holders
 pub mod Homes
+pub mod Journeys
 pub mod Kept
 pub mod Likeness
 pub mod OwnParts
