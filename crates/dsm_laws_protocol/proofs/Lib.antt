@@ -4,6 +4,7 @@ pub mod Due
 pub mod Families
 pub mod Flows
 pub mod Granting
+pub mod Handling
 pub mod Holders
 pub mod Homes
 pub mod Journeys

@@ -8,9 +8,9 @@ use Rattle.dsm_base.specs.declared.names.Mode.{Mode}
 use Rattle.dsm_base.specs.declared.label.Label.{Label}
 use Rattle.dsm_base.specs.declared.setup.Setup.{Setup}
 use Rattle.dsm_home.specs.LockStates.{version_made}
-use Rattle.dsm_net.specs.Messages.{home_of, manager_of}
+use Rattle.dsm_net.specs.Messages.{home_of}
 use Rattle.dsm_laws_protocol.specs.Courses.{upto, Move, asks, takes, gives, still, Claim, claim_of, made_by, move_of, moves_of}
-use Rattle.dsm_laws_protocol.specs.Due.{Item, items, due, IsFirstDue, Word, asked, gave, came, word_of_give, have_of, word_for}
+use Rattle.dsm_laws_protocol.specs.Due.{Item, items, due, IsFirstDue, Word, asked, gave, word_of_give, have_of, word_for}
 use Rattle.dsm_laws_protocol.proofs.Courses.{upto_grown, upto_all, upto_map}
 use Rattle.dsm_laws_protocol.proofs.Due.{append_empty, due_grown}
 use Rattle.dsm_laws_protocol.proofs.Homes.{IsNextMove}
@@ -85,11 +85,7 @@ ask_label setup home before (Label.Give other) lock mode own e = go (home_of set
     go : (b : Bool) → (home_of setup other.0 == home) ≡ b → Label.Give other ≡ Label.Ask lock mode
     go true i = absurd (gave_not_asked lock other _ own mode _ (rw i at e))
     go false i = let k : None ≡ Some (asked lock mode own) = rw i at e in cc
-ask_label setup home before (Label.Arrive bar) lock mode own e = go (manager_of setup bar.0 == home) refl
-  where
-    go : (b : Bool) → (manager_of setup bar.0 == home) ≡ b → Label.Arrive bar ≡ Label.Ask lock mode
-    go true i = let k : Some (came bar) ≡ Some (asked lock mode own) = rw i at e in cc
-    go false i = let k : None ≡ Some (asked lock mode own) = rw i at e in cc
+ask_label setup home before (Label.Arrive bar) lock mode own e = cc
 ask_label setup home before Label.Quiet lock mode own e = cc
 ask_label setup home before (Label.Load cell value) lock mode own e = cc
 ask_label setup home before (Label.Store cell value) lock mode own e = cc
@@ -133,11 +129,7 @@ give_word setup home before (Label.Ask other m) lock mode version e = go (home_o
     go : (b : Bool) → (home_of setup other.0 == home) ≡ b → IsGive before (Label.Ask other m) lock mode version
     go true i = let k : Some (asked other m (have_of other.0 before)) ≡ Some (gave lock mode version) = rw i at e in cc
     go false i = let k : None ≡ Some (gave lock mode version) = rw i at e in cc
-give_word setup home before (Label.Arrive bar) lock mode version e = go (manager_of setup bar.0 == home) refl
-  where
-    go : (b : Bool) → (manager_of setup bar.0 == home) ≡ b → IsGive before (Label.Arrive bar) lock mode version
-    go true i = let k : Some (came bar) ≡ Some (gave lock mode version) = rw i at e in cc
-    go false i = let k : None ≡ Some (gave lock mode version) = rw i at e in cc
+give_word setup home before (Label.Arrive bar) lock mode version e = cc
 give_word setup home before Label.Quiet lock mode version e = cc
 give_word setup home before (Label.Load cell value) lock mode version e = cc
 give_word setup home before (Label.Store cell value) lock mode version e = cc

@@ -4,13 +4,12 @@ use Rattle.dsm_base.specs.declared.label.Label.{Label}
 use Rattle.dsm_base.specs.declared.setup.Setup.{Setup}
 use Rattle.dsm_msg.specs.declared.message.Body.{Body}
 use Rattle.dsm_msg.specs.declared.message.Msg.{Msg}
-use Rattle.dsm_laws_protocol.specs.Due.{Item, due, AreOver, Word, asked, gave, came, word_for}
+use Rattle.dsm_laws_protocol.specs.Due.{Item, due, AreOver, Word, asked, gave, word_for}
 
--- what a body tells a home or manager
+-- what a body tells a home
 abbrev pub words_in : ℕ → Body → List (Item Word)
 words_in turn (Body.Req lock mode «have») = record { turn = turn; body = asked lock mode «have» } ∷ []
 words_in turn (Body.Release lock mode version lines) = record { turn = turn; body = gave lock mode version } ∷ []
-words_in turn (Body.Arrive bar epoch lines) = record { turn = turn; body = came bar } ∷ []
 words_in turn _ = []
 
 abbrev pub words : List Msg → List (Item Word)
