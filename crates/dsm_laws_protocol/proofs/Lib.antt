@@ -14,6 +14,7 @@ pub mod OwnParts
 pub mod Quiet
 pub mod Rights
 pub mod Runs
+pub mod Threads
 pub mod Turns
 pub mod Waiting
 pub mod Worlds
