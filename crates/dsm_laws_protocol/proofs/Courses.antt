@@ -235,7 +235,7 @@ may_give : (before : List Move) (move : Move) (claim : Option Claim) → claim_o
 may_give before move None c e h = absurd h
 may_give before move (Some claim) c e h = record { claim = claim; is_claim = e ∙ c; is_taken = let w = claim_within before claim c in omega arith }
 
-giving : (before : List Move) → Follows before gives → IsGiving before
+pub giving : (before : List Move) → Follows before gives → IsGiving before
 giving [] f = absurd f
 giving (asks mode ∷ before) f = let k : gives ≡ takes mode f.0 = f.1 in cc
 giving (takes mode version ∷ before) f = may_give before (takes mode version) (claim_of before) refl refl f

@@ -1,5 +1,5 @@
 -- Messages come and go, and what is under way stays in order.
-use Rattle.std.specs.Prelude.{◌≡◌, ℕ, ◌+◌, ◌≤◌, ◌<◌, List, [], ◌∷◌, ◌++◌, length, Option, Some, None}
+use Rattle.std.specs.Prelude.{◌≡◌, ℕ, ◌+◌, ◌≤◌, ◌<◌, Bool, true, false, if◌then◌else◌, List, [], ◌∷◌, ◌++◌, length, filter, Option, Some, None}
 use Rattle.std.proofs.Common.{arith, refl, sym, ap, ap₂, ◌∙◌, subst, append_assoc, append-nil}
 use Rattle.dsm_base.specs.declared.label.Label.{Label}
 use Rattle.dsm_base.specs.declared.setup.Setup.{Setup}
@@ -87,3 +87,24 @@ module _ (setup : Setup) (q : ℕ) where
       let parts : (due (word_for setup q) known (upto msg.carry.turn course) ≡ []) × (due (word_for setup q) msg.carry.turn course ≡ due (word_for setup q) known course) =
           due_later (word_for setup q) known msg.carry.turn course flow.in_order.0 (order_within msg.carry.turn (length course) others flow.in_order.2) (subst (AreOver msg.carry.turn) all flow.in_order.1) in
       record { is_quiet = parts.0; flow = record { in_order = flow.in_order.2; is_due = all ∙ sym parts.1 } }
+
+-- Several messages.
+
+-- messages that are sent after this many turns and tell nothing
+abbrev pub AreQuiet : ℕ → List Msg → Type 0
+AreQuiet turns [] = Unit {0}
+AreQuiet turns (msg ∷ msgs) = (msg.carry.turn ≡ turns) × (words_in msg.carry.turn msg.body ≡ []) × AreQuiet turns msgs
+
+pub quiet_filter : (test : Msg → Bool) (turns : ℕ) (msgs : List Msg) → AreQuiet turns msgs → AreQuiet turns (filter test msgs)
+quiet_filter test turns [] h = tt
+quiet_filter test turns (msg ∷ msgs) h = go (test msg) refl (quiet_filter test turns msgs h.2)
+  where
+    go : (b : Bool) → test msg ≡ b → AreQuiet turns (filter test msgs) → AreQuiet turns (filter test (msg ∷ msgs))
+    go true e more = rw e (h.0, h.1, more)
+    go false e more = rw e more
+
+pub others_sent : (setup : Setup) (q : ℕ) (course : List Label) (known : ℕ) (news msgs : List Msg) → IsFlow setup q course known msgs → AreQuiet (length course) news → IsFlow setup q course known (msgs ++ news)
+others_sent setup q course known [] msgs flow h = subst (IsFlow setup q course known) (sym (append-nil msgs)) flow
+others_sent setup q course known (msg ∷ news) msgs flow h =
+    subst (IsFlow setup q course known) (append_assoc msgs (msg ∷ []) news)
+    (others_sent setup q course known news (msgs ++ msg ∷ []) (other_sent setup q course known msgs msg flow h.0 h.1) h.2)

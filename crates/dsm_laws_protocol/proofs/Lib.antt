@@ -10,8 +10,10 @@ pub mod Homes
 pub mod Journeys
 pub mod Kept
 pub mod Likeness
+pub mod Own
 pub mod OwnParts
 pub mod Quiet
+pub mod Reached
 pub mod Rights
 pub mod Runs
 pub mod Threads

@@ -16,7 +16,7 @@ use Rattle.dsm_laws_protocol.specs.Courses.{Move, asks, takes, gives, still, Cla
 use Rattle.dsm_laws_protocol.proofs.Courses.{claim_within, HasLock, held_has, claim_held}
 
 -- a label that does nothing to a lock
-abbrev is_other : Label → Bool
+abbrev pub is_other : Label → Bool
 is_other (Label.Ask lock mode) = false
 is_other (Label.Take lock mode version) = false
 is_other (Label.Give lock) = false
@@ -135,13 +135,15 @@ asks_is lock (Label.Line text) mode e = cc
 asks_is lock Label.End mode e = cc
 asks_is lock (Label.Stop fault line) mode e = cc
 
+-- each label of a thread answers what it wanted
+abbrev pub IsMade : {S : Type 0} → Semantics S → S → List Label → Type 0
+IsMade threads first [] = Unit {0}
+IsMade threads first (label ∷ before) =
+    IsMade threads first before × Outcome (threads.want (state_after threads first before)) label
+
 module _ {S : Type 0} (threads : Semantics S) (first : S) (ask_first : AsksFirst threads first) (lock : ℕ) where
   abbrev state : List Label → S
   state labels = state_after threads first labels
-
-  abbrev pub IsMade : List Label → Type 0
-  IsMade [] = Unit {0}
-  IsMade (label ∷ before) = IsMade before × Outcome (threads.want (state before)) label
 
   -- at the start nothing is held or asked for
   first_follows : (held : ℕ → Option Mode) → held lock ≡ None → (label : Label) → Answer (threads.want first) held label → May None (move_of lock label)
@@ -222,7 +224,7 @@ module _ {S : Type 0} (threads : Semantics S) (first : S) (ask_first : AsksFirst
   not_asks move other e n mode k = n mode (sym e ∙ k)
 
   -- the next label of a thread follows those before it
-  pub follows : (labels : List Label) → IsMade labels → IsCourse (moves_of lock labels) → (held : ℕ → Option Mode) → held lock ≡ held_by (moves_of lock labels) → (label : Label) → Answer (threads.want (state labels)) held label →
+  pub follows : (labels : List Label) → IsMade threads first labels → IsCourse (moves_of lock labels) → (held : ℕ → Option Mode) → held lock ≡ held_by (moves_of lock labels) → (label : Label) → Answer (threads.want (state labels)) held label →
       Follows (moves_of lock labels) (move_of lock label)
   follows [] version_made course held same label answer = first_follows held same label answer
   follows (newest ∷ before) version_made course held same label answer = go (move_of lock newest) refl
