@@ -21,7 +21,7 @@ over_less : (j k : ℕ) (xs : List (Item Word)) → j ≤ k → AreOver k xs →
 over_less j k [] le h = tt
 over_less j k (x ∷ xs) le h = (let a = h.0 in omega arith, over_less j k xs le h.1)
 
-order_within : (k n : ℕ) (msgs : List Msg) → IsInOrder k n msgs → k ≤ n
+pub order_within : (k n : ℕ) (msgs : List Msg) → IsInOrder k n msgs → k ≤ n
 order_within k n [] h = h
 order_within k n (msg ∷ msgs) h = let a = h.0 in let b = order_within msg.carry.turn n msgs h.2 in omega arith
 

@@ -1,5 +1,6 @@
 pub mod Channels
 pub mod Courses
+pub mod Deliveries
 pub mod Due
 pub mod Families
 pub mod Flows

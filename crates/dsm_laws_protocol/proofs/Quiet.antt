@@ -74,7 +74,7 @@ gave_not_asked lock other version own mode None e = cc
 gave_not_asked lock other version own mode (Some claim) e = cc
 
 -- only an ask says that it asks
-ask_label : (setup : Setup) (home : ℕ) (before : List Label) (label : Label) (lock : Lock) (mode : Mode) (own : ℕ) → word_for setup home before label ≡ Some (asked lock mode own) → label ≡ Label.Ask lock mode
+pub ask_label : (setup : Setup) (home : ℕ) (before : List Label) (label : Label) (lock : Lock) (mode : Mode) (own : ℕ) → word_for setup home before label ≡ Some (asked lock mode own) → label ≡ Label.Ask lock mode
 ask_label setup home before (Label.Ask other m) lock mode own e = go (home_of setup other.0 == home) refl
   where
     go : (b : Bool) → (home_of setup other.0 == home) ≡ b → Label.Ask other m ≡ Label.Ask lock mode
@@ -118,7 +118,7 @@ gave_is before other lock mode version (Some claim) c e =
       is_version = subst (λ (x : Lock). version ≡ version_made claim.mode (have_of x.0 before)) l (sym v);
     }
 
-give_word : (setup : Setup) (home : ℕ) (before : List Label) (label : Label) (lock : Lock) (mode : Mode) (version : ℕ) → word_for setup home before label ≡ Some (gave lock mode version) → IsGive before label lock mode version
+pub give_word : (setup : Setup) (home : ℕ) (before : List Label) (label : Label) (lock : Lock) (mode : Mode) (version : ℕ) → word_for setup home before label ≡ Some (gave lock mode version) → IsGive before label lock mode version
 give_word setup home before (Label.Give other) lock mode version e = go (home_of setup other.0 == home) refl
   where
     go : (b : Bool) → (home_of setup other.0 == home) ≡ b → IsGive before (Label.Give other) lock mode version
