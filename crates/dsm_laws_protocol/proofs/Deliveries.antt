@@ -16,6 +16,7 @@ use Rattle.dsm_lines.specs.declared.of_objects.MailGrant.{MailGrant}
 use Rattle.dsm_msg.specs.declared.message.Body.{Body}
 use Rattle.dsm_msg.specs.declared.message.Carry.{Carry}
 use Rattle.dsm_msg.specs.declared.message.Msg.{Msg}
+use Rattle.dsm_home.specs.LockStates.{version_made}
 use Rattle.dsm_net.specs.Processor.{Own, Peer, Processor}
 use Rattle.dsm_net.specs.Messages.{home_of, with_carry, peer_after}
 use Rattle.dsm_net.specs.Grants.{home_after_grants, grant_messages}
@@ -211,3 +212,87 @@ module _ {S : Type 0} (setup : Setup) (first : ℕ → S) (threads : Semantics S
               peers = refl;
               lawful = ask_lawful setup (came_to home) came p carry.turn lock (heard home) mode own due;
             })))
+
+  -- a release
+  pub gave_reached : (q : ℕ) (from to : Proc) (lock : Lock) (mode : Mode) (version : ℕ) (lines : List Line) → (p == q) ≡ false →
+      w.channels p q ≡ record { from = from; to = to; carry = carry; body = Body.Release lock mode version lines } ∷ others →
+      IsReached setup first threads (after q (effect_of_body setup q (heard q) p carry.turn (Body.Release lock mode version lines)).processor (effect_of_body setup q (heard q) p carry.turn (Body.Release lock mode version lines)).sends)
+  gave_reached q from to lock mode version lines ne oldest =
+      let msg : Msg = record { from = from; to = to; carry = carry; body = Body.Release lock mode version lines } in
+      let flow : IsFlow setup q (w.courses p) (w.handled q p) (msg ∷ others) = subst (IsFlow setup q (w.courses p) (w.handled q p)) oldest (h.flows p q ne) in
+      let sent : AreSent setup p (msg ∷ others) = subst (AreSent setup p) oldest (h.sent p q) in
+      let told : IsTold setup q (w.courses p) (w.handled q p) msg (gave lock mode version) others = told_came setup q (w.courses p) (w.handled q p) msg (gave lock mode version) others flow refl in
+      let give : IsGive told.first.before told.first.label lock mode version = give_word setup q told.first.before told.first.label lock mode version told.first.is_body in
+      let is_home : home_of setup lock.0 ≡ q = give_home setup q told.first.before lock (gave lock mode version) (subst (λ l. word_for setup q told.first.before l ≡ Some (gave lock mode version)) give.is_label told.first.is_body) in
+      at_home q is_home ne oldest told give sent.0.fits sent.1
+    where
+      at_home : (q : ℕ) → home_of setup lock.0 ≡ q → (p == q) ≡ false → w.channels p q ≡ record { from = from; to = to; carry = carry; body = Body.Release lock mode version lines } ∷ others →
+          (told : IsTold setup q (w.courses p) (w.handled q p) record { from = from; to = to; carry = carry; body = Body.Release lock mode version lines } (gave lock mode version) others) →
+          IsGive told.first.before told.first.label lock mode version → may_bring mode lines ≡ true → AreSent setup p others →
+          IsReached setup first threads (after q (effect_of_body setup q (heard q) p carry.turn (Body.Release lock mode version lines)).processor (effect_of_body setup q (heard q) p carry.turn (Body.Release lock mode version lines)).sends)
+      at_home q i = subst (λ q. (p == q) ≡ false → w.channels p q ≡ record { from = from; to = to; carry = carry; body = Body.Release lock mode version lines } ∷ others →
+          (told : IsTold setup q (w.courses p) (w.handled q p) record { from = from; to = to; carry = carry; body = Body.Release lock mode version lines } (gave lock mode version) others) →
+          IsGive told.first.before told.first.label lock mode version → may_bring mode lines ≡ true → AreSent setup p others →
+          IsReached setup first threads (after q (effect_of_body setup q (heard q) p carry.turn (Body.Release lock mode version lines)).processor (effect_of_body setup q (heard q) p carry.turn (Body.Release lock mode version lines)).sends)) i (λ ne oldest told give fits left.
+            (let home : ℕ = home_of setup lock.0 in
+            let came : AreLawful setup (came_to home) = came_lawful setup w p home record { from = from; to = to; carry = carry; body = Body.Release lock mode version lines } others (heard home) record {
+              oldest = oldest;
+              locks = refl;
+              mail = λ other. sym (append-nil (mail_for other (w.processors home).mail.grants));
+              from_home = λ other apart. refl;
+            } h.lawful in
+            let due : IsDue setup (came_to home) came p carry.turn lock (heard home) gives = record {
+              is_home = if_same home (heard home) (w.processors home);
+              last = let k = same_last home p in let l = h.last p home in let m : w.handled home p < carry.turn = told.first.later in omega arith;
+              next_is = next_as (next_move setup home lock.0 (w.handled home p) (same_number home) (w.courses p) _ _ told.first) (ap (move_of lock.0) give.is_label ∙ if_same lock.0 gives still);
+              others = λ other apart there. still_same (moves_of other (w.courses p)) (w.handled home p) carry.turn
+                  (next_as (next_move setup home other (w.handled home p) (rw there (same_number home)) (w.courses p) _ _ told.first) (ap (move_of other) give.is_label ∙ rw apart refl));
+            } in
+            let return : IsReturn setup (came_to home) came p carry.turn lock (heard home) mode version lines = record {
+              due = due;
+              claim = give.claim;
+              is_claim = give.is_claim;
+              is_mode = give.is_mode;
+              is_version = give.is_version ∙ ap (λ m. version_made m (have_of lock.0 told.first.before)) give.is_mode;
+              brings = fits;
+              is_processor = h.is_in p (let a : w.handled home p < carry.turn = told.first.later in let b : carry.turn ≤ length (w.courses p) = told.first.within in omega arith);
+            } in
+            rw (give_counts setup (came_to home) came p carry.turn lock (heard home) mode version lines return)
+            (due_reached home lock (Body.Release lock mode version lines) (with_release setup (heard home) p carry.turn lock mode version lines) record {
+              apart = ne;
+              is_home = refl;
+              later = told.first.later;
+              flow = told.flow;
+              left = left;
+              own = refl;
+              peers = refl;
+              lawful = give_lawful setup (came_to home) came p carry.turn lock (heard home) mode version lines return;
+            })))
+
+  heard_taking : (q : ℕ) (body : Body) → ((lock : ℕ) → grants_in lock body ≡ []) → IsTaking q body (heard q)
+  heard_taking q body none = record {
+    own = refl;
+    peers = refl;
+    locks = refl;
+    mail = λ lock. sym (ap (λ gs. mail_for lock (w.processors q).mail.grants ++ gs) (none lock) ∙ append-nil (mail_for lock (w.processors q).mail.grants));
+  }
+
+  -- any message
+  pub delivered_reached : (q : ℕ) (from to : Proc) (body : Body) → (p == q) ≡ false → w.channels p q ≡ record { from = from; to = to; carry = carry; body = body } ∷ others →
+      IsReached setup first threads (after q (effect_of_body setup q (heard q) p carry.turn body).processor (effect_of_body setup q (heard q) p carry.turn body).sends)
+  delivered_reached q from to (Body.Req lock mode own) ne oldest = asked_reached q from to lock mode own ne oldest
+  delivered_reached q from to (Body.Release lock mode version lines) ne oldest = gave_reached q from to lock mode version lines ne oldest
+  delivered_reached q from to (Body.Grant lock mode take version lines) ne oldest =
+      taken_reached q from to (Body.Grant lock mode take version lines) (effect_of_body setup q (heard q) p carry.turn (Body.Grant lock mode take version lines)).processor ne oldest refl record {
+        own = refl;
+        peers = refl;
+        locks = refl;
+        mail = λ other. filter-append (λ (grant : MailGrant). grant.lock.0 == other) (w.processors q).mail.grants (record { turn = take; lock = lock; mode = mode; version = version; lines = lines } ∷ []);
+      }
+  delivered_reached q from to (Body.Arrive bar epoch lines) ne oldest = go (counts (heard q) p carry.turn (Body.Arrive bar epoch lines)) refl
+    where
+      go : (b : Bool) → counts (heard q) p carry.turn (Body.Arrive bar epoch lines) ≡ b →
+          IsReached setup first threads (after q (effect_of_body setup q (heard q) p carry.turn (Body.Arrive bar epoch lines)).processor (effect_of_body setup q (heard q) p carry.turn (Body.Arrive bar epoch lines)).sends)
+      go true e = rw e (taken_reached q from to (Body.Arrive bar epoch lines) (heard q) ne oldest refl (heard_taking q (Body.Arrive bar epoch lines) (λ lock. refl)))
+      go false e = rw e (taken_reached q from to (Body.Arrive bar epoch lines) (heard q) ne oldest refl (heard_taking q (Body.Arrive bar epoch lines) (λ lock. refl)))
+  delivered_reached q from to body ne oldest = taken_reached q from to body (heard q) ne oldest refl (heard_taking q body (λ lock. refl))
