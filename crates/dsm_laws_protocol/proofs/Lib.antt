@@ -11,6 +11,7 @@ pub mod Homes
 pub mod Journeys
 pub mod Kept
 pub mod Likeness
+pub mod Making
 pub mod Own
 pub mod OwnParts
 pub mod Quiet
