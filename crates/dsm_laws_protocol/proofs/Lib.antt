@@ -18,6 +18,7 @@ pub mod Quiet
 pub mod Reached
 pub mod Rights
 pub mod Runs
+pub mod Telling
 pub mod Threads
 pub mod Turns
 pub mod Waiting

@@ -167,7 +167,7 @@ module _ {S : Type 0} (setup : Setup) (first : ℕ → S) (threads : Semantics S
 
   -- A turn that tells p itself, which is the lock's home.
 
-  abbrev own_made : ℕ → Label → Processor S → World S
+  abbrev pub own_made : ℕ → Label → Processor S → World S
   own_made p label now = with_label (with_new w p now) p label
 
   -- the home grants what it may once it has handled its own body
@@ -210,7 +210,7 @@ module _ {S : Type 0} (setup : Setup) (first : ℕ → S) (threads : Semantics S
       }
 
   -- the next move at each lock, as the home itself handles it
-  own_due : (lock : Lock) (label : Label) (now : Processor S) (next : Move) → (is : IsMaking (home_of setup lock.0) label now) → move_of lock.0 label ≡ next → ((other : ℕ) → (lock.0 == other) ≡ false → move_of other label ≡ still) →
+  pub own_due : (lock : Lock) (label : Label) (now : Processor S) (next : Move) → (is : IsMaking (home_of setup lock.0) label now) → move_of lock.0 label ≡ next → ((other : ℕ) → (lock.0 == other) ≡ false → move_of other label ≡ still) →
       IsDue setup (own_made (home_of setup lock.0) label now) is.lawful (home_of setup lock.0) now.own.turns lock now next
   own_due lock label now next is here others =
       let p : ℕ = home_of setup lock.0 in
