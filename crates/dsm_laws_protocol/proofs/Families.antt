@@ -17,6 +17,9 @@ turned_false a b e = grind arith
 pub turned_true : (a b : ℕ) → (a == b) ≡ true → (b == a) ≡ true
 turned_true a b e = grind arith
 
+pub apart_false : (a b : ℕ) → a ≢ b → (b == a) ≡ false
+apart_false a b n = elim (eqb_tells b a) [ inl (_, i) ↦ absurd (n (sym i)) | inr (e, _) ↦ e ]
+
 -- what holds of a changed member and of the others holds of all
 pub one_changed : {P : ℕ → Type 0} (p : ℕ) → ((p == p) ≡ true → P p) → ((q : ℕ) → (q == p) ≡ false → P q) → (q : ℕ) → P q
 one_changed {P} p here others q =

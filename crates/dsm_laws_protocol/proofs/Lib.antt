@@ -16,6 +16,7 @@ pub mod Own
 pub mod OwnParts
 pub mod Quiet
 pub mod Reached
+pub mod Reaching
 pub mod Rights
 pub mod Runs
 pub mod Telling

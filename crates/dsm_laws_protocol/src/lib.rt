@@ -9,6 +9,8 @@ ghost use Rattle.dsm_base.specs.Plain.{labels_of};
 ghost use Rattle.dsm_net.specs.declared.trace.Group.{Group};
 ghost use Rattle.dsm_net.specs.Fits.{FitsUnits, run_of};
 ghost use Rattle.dsm_net.specs.Story.{history, own_turns_of, labels_of_turns};
+ghost use Rattle.dsm_laws_runs.specs.Versions.{AllAskFirst};
+ghost use Rattle.dsm_laws_protocol.specs.Holding.{AreWithin, HoldTogether};
 ghost use Rattle.dsm_laws_protocol.specs.OwnParts.{HasOwnParts};
 ghost use Rattle.dsm_laws_protocol.specs.Waiting.{NobodyWaitsInVain};
 
@@ -31,4 +33,13 @@ pub fn nobody_waits_in_vain<T: Task>()
     ensures { (setup : Setup) (first : ℕ → T.State) (acts : List Act) (trace : List Group)
         (fits : FitsUnits setup first T.kind.semantics acts trace) →
         NobodyWaitsInVain (run_of setup first T.kind.semantics fits.done).net }
+{}
+
+/// Two processors hold one lock only where both hold it shared, by what their own turns left: no
+/// processor looks at another's.
+pub fn processors_hold_together<T: Task>()
+    ensures { (setup : Setup) (first : ℕ → T.State) (acts : List Act) (trace : List Group) →
+        AllAskFirst setup first T.kind.semantics →
+        (fits : FitsUnits setup first T.kind.semantics acts trace) → AreWithin setup acts →
+        HoldTogether (run_of setup first T.kind.semantics fits.done).net }
 {}
