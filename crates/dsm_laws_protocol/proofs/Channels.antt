@@ -1,6 +1,6 @@
 -- What a unit leaves under way: what there was, and behind it what was sent.
-use Rattle.std.specs.Prelude.{◌≡◌, ℕ, ◌+◌, Bool, true, false, ◌&&◌, ◌==◌, if◌then◌else◌, nat_lt, List, [], ◌∷◌, ◌++◌, map, filter, Option, Some, None}
-use Rattle.std.proofs.Common.{arith, refl, sym, ap, ap₂, ◌∙◌, inl, inr, subst, append_assoc, append-nil}
+use Rattle.std.specs.Prelude.{◌≡◌, ℕ, ◌+◌, Bool, true, false, ◌&&◌, ◌==◌, if◌then◌else◌, nat_lt, List, [], ◌∷◌, ◌++◌, filter, Some, None}
+use Rattle.std.proofs.Common.{refl, sym, ap, ap₂, ◌∙◌, inl, inr, subst, append_assoc, append-nil}
 use Rattle.std.proofs.lemmas.Bool.Decides.{eqb_tells}
 use Rattle.std.proofs.lemmas.List.{map-append}
 use Rattle.dsm_base.specs.declared.lists.PendingLine.{PendingLine}
@@ -10,9 +10,9 @@ use Rattle.dsm_net.specs.declared.trace.Letter.{Letter}
 use Rattle.dsm_net.specs.Processor.{Processor}
 use Rattle.dsm_net.specs.Effects.{Effect}
 use Rattle.dsm_net.specs.Net.{Net}
-use Rattle.dsm_net.specs.Units.{Made, with_message_to, with_message, with_messages, with_line_out, with_lines_out, with_processor, with_effect}
+use Rattle.dsm_net.specs.Units.{Made, with_message_to, with_messages, with_line_out, with_lines_out, with_processor, with_effect}
 use Rattle.dsm_laws_protocol.specs.Worlds.{grants_in, grants_said, said}
-use Rattle.dsm_laws_protocol.proofs.Kept.{IsKept, messages_kept, lines_out_kept, effect_kept}
+use Rattle.dsm_laws_protocol.proofs.Kept.{IsKept, lines_out_kept, effect_kept}
 
 -- these are the processors, and all are up
 abbrev pub AreUp : {S : Type 0} → Net S → (ℕ → Processor S) → Type 0
@@ -35,9 +35,9 @@ module _ {S : Type 0} (processors : ℕ → Processor S) where
   one_said channels letter p q =
       elim (eqb_tells p letter.msg.from.0) [
         | inl (t, i) ↦ elim (eqb_tells q letter.msg.to.0) [
-            | inl (u, j) ↦ rw (t, u) (map-append (λ (l : Letter). l.msg) (channels letter.msg.from.0 letter.msg.to.0) (letter ∷ []) ∙ ap₂ (λ a b. said (channels a b) ++ letter.msg ∷ []) (sym i) (sym j))
-            | inr (u, _) ↦ rw (t, u) (ap (λ a. said (channels a q)) (sym i) ∙ sym (append-nil (said (channels p q))))
-          ]
+          | inl (u, j) ↦ rw (t, u) (map-append (λ (l : Letter). l.msg) (channels letter.msg.from.0 letter.msg.to.0) (letter ∷ []) ∙ ap₂ (λ a b. said (channels a b) ++ letter.msg ∷ []) (sym i) (sym j))
+          | inr (u, _) ↦ rw (t, u) (ap (λ a. said (channels a q)) (sym i) ∙ sym (append-nil (said (channels p q))))
+        ]
         | inr (t, _) ↦ rw t (sym (append-nil (said (channels p q))))
       ]
 

@@ -4,7 +4,7 @@ use Rattle.std.proofs.Common.{arith, refl, sym, ap, ◌∙◌, inl, inr, subst, 
 use Rattle.std.proofs.lemmas.Bool.Decides.{leb_tells}
 use Rattle.std.proofs.lemmas.List.{length-map}
 use Rattle.dsm_base.specs.declared.names.Mode.{Mode}
-use Rattle.dsm_laws_protocol.specs.Courses.{upto, past, Move, asks, takes, gives, still, Claim, claim_after, claim_of, is_exclusive_claim, has_ask, has_ask_behind, made_by, have_by, held_by, May, Follows, IsCourse}
+use Rattle.dsm_laws_protocol.specs.Courses.{upto, past, Move, asks, takes, gives, still, Claim, claim_of, is_exclusive_claim, has_ask, has_ask_behind, made_by, have_by, held_by, May, Follows, IsCourse}
 
 module _ {A : Type 0} where
   pub upto_grown : (k : ℕ) (x : A) (xs : List A) → k ≤ length xs → upto k (x ∷ xs) ≡ upto k xs
@@ -135,9 +135,9 @@ ask_newest k t mode [] before h lt le e = cc
 ask_newest k t mode (move ∷ moves) before h lt le e =
     elim (leb_tells t (length moves)) [
       | inl (_, less) ↦ (
-        let a : has_ask (past k moves) ≡ true = ask_past k t mode moves before lt less (rw (upto_grown t move moves less) at e) in
-        let b : has_ask (past k moves) ≡ false = rw (past_grown k move moves (omega arith)) at h in
-        absurd (true≢false (sym a ∙ b)))
+          let a : has_ask (past k moves) ≡ true = ask_past k t mode moves before lt less (rw (upto_grown t move moves less) at e) in
+          let b : has_ask (past k moves) ≡ false = rw (past_grown k move moves (omega arith)) at h in
+          absurd (true≢false (sym a ∙ b)))
       | inr (_, more) ↦ omega arith
     ]
 
@@ -158,7 +158,6 @@ claim_handled k moves claim h e lt =
     let r : (rest : List Move) × (upto claim.turn moves ≡ asks claim.mode ∷ rest) = claim_asks moves claim e in
     elim (leb_tells claim.turn k) [ inl (_, le) ↦ le | inr (_, more) ↦ absurd (let n = ask_newest k claim.turn claim.mode moves r.0 h more (omega arith) r.1 in omega arith) ]
 
-
 pub upto_map : {A B : Type 0} (f : A → B) (k : ℕ) (xs : List A) → upto k (map f xs) ≡ map f (upto k xs)
 upto_map f k [] = refl
 upto_map f k (x ∷ xs) = subst (λ n. (if nat_lt n k then f x ∷ map f xs else upto k (map f xs)) ≡ map f (upto k (x ∷ xs))) (sym (length-map xs f)) (go (nat_lt (length xs) k) refl (upto_map f k xs))
@@ -166,7 +165,6 @@ upto_map f k (x ∷ xs) = subst (λ n. (if nat_lt n k then f x ∷ map f xs else
     go : (b : Bool) → nat_lt (length xs) k ≡ b → upto k (map f xs) ≡ map f (upto k xs) → (if nat_lt (length xs) k then f x ∷ map f xs else upto k (map f xs)) ≡ map f (upto k (x ∷ xs))
     go true e more = rw e refl
     go false e more = rw e more
-
 
 -- Who has the lock.
 
@@ -176,7 +174,6 @@ pub record HasLock (moves : List Move) (mode : Mode) : Type 0 where
   pub is_claim : claim_of moves ≡ Some claim
   pub is_taken : claim.turn < length moves
   pub is_mode : claim.mode ≡ mode
-
 
 may_not_take : (claim : Option Claim) (mode : Mode) (version : ℕ) → May claim (takes mode version) → ⊥
 may_not_take None mode version h = absurd h
@@ -224,7 +221,6 @@ claim_held (still ∷ before) claim h e lt =
       | inr (_, more) ↦ absurd (let w = claim_within before claim e in let k : (version : ℕ) × (still ≡ takes claim.mode version) = newest_claim before claim still e (omega arith) h.1 in not_still claim.mode k.0 k.1)
     ]
 
-
 -- who gives a lock back has it
 pub record IsGiving (before : List Move) : Type 0 where
   pub claim : Claim
@@ -241,7 +237,6 @@ giving (asks mode ∷ before) f = let k : gives ≡ takes mode f.0 = f.1 in cc
 giving (takes mode version ∷ before) f = may_give before (takes mode version) (claim_of before) refl refl f
 giving (gives ∷ before) f = absurd f
 giving (still ∷ before) f = may_give before still (claim_of before) refl refl f
-
 
 -- Versions.
 
@@ -277,4 +272,3 @@ version_kept (still ∷ before) claim mode version rest h c lt e =
       | inl (_, less) ↦ version_kept before claim mode version rest h.0 c (let l = less in omega arith) (sym (upto_grown (claim.turn + 1) still before less) ∙ e)
       | inr (_, more) ↦ let k : still ∷ before ≡ takes mode version ∷ rest = taken_now (still ∷ before) claim mode version rest (let w = claim_within before claim c in omega arith) e in cc
     ]
-

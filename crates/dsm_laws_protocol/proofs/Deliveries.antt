@@ -1,6 +1,6 @@
 -- A message that is delivered: what is reached then.
-use Rattle.std.specs.Prelude.{◌≡◌, ℕ, ◌+◌, ◌≤◌, ◌<◌, Bool, true, false, ◌==◌, if◌then◌else◌, nat_lt, List, [], ◌∷◌, ◌++◌, length, filter, Option, Some, None}
-use Rattle.std.proofs.Common.{arith, refl, sym, ap, ap₂, ◌∙◌, subst, inl, inr, append-nil, true≢false}
+use Rattle.std.specs.Prelude.{◌≡◌, ℕ, ◌≤◌, ◌<◌, Bool, true, false, ◌==◌, List, [], ◌∷◌, ◌++◌, length, Some, None}
+use Rattle.std.proofs.Common.{arith, refl, sym, ap, ◌∙◌, subst, inl, inr, append-nil, true≢false}
 use Rattle.std.proofs.Math.Path.{fun_ext}
 use Rattle.std.proofs.lemmas.Bool.Decides.{eqb_tells}
 use Rattle.std.proofs.lemmas.List.Elements.{filter-append}
@@ -18,23 +18,22 @@ use Rattle.dsm_msg.specs.declared.message.Carry.{Carry}
 use Rattle.dsm_msg.specs.declared.message.Msg.{Msg}
 use Rattle.dsm_home.specs.LockStates.{version_made}
 use Rattle.dsm_net.specs.Processor.{Own, Peer, Processor}
-use Rattle.dsm_net.specs.Messages.{home_of, with_carry, peer_after}
+use Rattle.dsm_net.specs.Messages.{home_of, with_carry}
 use Rattle.dsm_net.specs.Grants.{home_after_grants, grant_messages}
 use Rattle.dsm_net.specs.Effects.{may_bring, counts, with_last, with_request, with_release, effect_of_body}
-use Rattle.dsm_laws_protocol.specs.Courses.{upto, Move, asks, gives, still, Claim, move_of, moves_of, claim_of, made_by, have_by}
-use Rattle.dsm_laws_protocol.specs.Due.{Item, IsFirstDue, Word, asked, gave, have_of, word_for}
-use Rattle.dsm_laws_protocol.specs.Flows.{words_in, words, IsInOrder, IsFlow}
+use Rattle.dsm_laws_protocol.specs.Courses.{Move, asks, gives, still, move_of, moves_of, claim_of, made_by}
+use Rattle.dsm_laws_protocol.specs.Due.{Word, asked, gave, have_of, word_for}
+use Rattle.dsm_laws_protocol.specs.Flows.{words_in, IsFlow}
 use Rattle.dsm_laws_protocol.specs.Worlds.{World, grants_in, mail_for, AreLawful}
-use Rattle.dsm_laws_protocol.proofs.Families.{if_same, turned_false, same_number}
-use Rattle.dsm_laws_protocol.proofs.Channels.{goes}
+use Rattle.dsm_laws_protocol.proofs.Families.{if_same, same_number}
 use Rattle.dsm_laws_protocol.proofs.Granting.{none_to_me}
 use Rattle.dsm_laws_protocol.proofs.Homes.{IsNextMove, next_as}
 use Rattle.dsm_laws_protocol.proofs.Quiet.{ask_label, IsGive, give_word, next_move}
 use Rattle.dsm_laws_protocol.proofs.Flows.{AreQuiet, IsTold, told_came, IsPassed, other_came, order_within}
-use Rattle.dsm_laws_protocol.proofs.Worlds.{with_new, without_oldest, with_handled, with_sent, IsSameUpto, raised, granted_lawful}
-use Rattle.dsm_laws_protocol.proofs.Journeys.{IsComing, came_lawful}
+use Rattle.dsm_laws_protocol.proofs.Worlds.{with_new, without_oldest, with_handled, IsSameUpto, raised, granted_lawful}
+use Rattle.dsm_laws_protocol.proofs.Journeys.{came_lawful}
 use Rattle.dsm_laws_protocol.proofs.Handling.{IsDue, ask_counts, ask_lawful, IsReturn, give_counts, give_lawful}
-use Rattle.dsm_laws_protocol.proofs.Reached.{IsSent, AreSent, IsReached, after_delivery, IsDelivered, delivery_reached, grants_quiet, grants_sent}
+use Rattle.dsm_laws_protocol.proofs.Reached.{AreSent, IsReached, after_delivery, delivery_reached, grants_quiet, grants_sent}
 
 -- the last of several changes of one member is the one that counts
 pub last_change : {A : Type 0} (f : ℕ → A) (k : ℕ) (a b : A) (r : ℕ) → update (update f k a) k b r ≡ update f k b r
@@ -123,9 +122,9 @@ module _ {S : Type 0} (setup : Setup) (first : ℕ → S) (threads : Semantics S
   none_left q r ne =
       elim (eqb_tells r p) [
         | inl (t, i) ↦ elim (eqb_tells r q) [
-            | inl (u, j) ↦ absurd (true≢false (sym (rw i at u) ∙ ne))
-            | inr (u, _) ↦ rw (t, u) (ap (λ a. w.channels a r) (sym i) ∙ h.none r)
-          ]
+          | inl (u, j) ↦ absurd (true≢false (sym (rw i at u) ∙ ne))
+          | inr (u, _) ↦ rw (t, u) (ap (λ a. w.channels a r) (sym i) ∙ h.none r)
+        ]
         | inr (t, _) ↦ rw t (h.none r)
       ]
 
@@ -134,11 +133,11 @@ module _ {S : Type 0} (setup : Setup) (first : ℕ → S) (threads : Semantics S
       AreLawful setup (after q (served q queued lock) (grants q queued lock))
   granted_delivery q lock queued i =
       subst (λ q. (p == q) ≡ false → AreLawful setup (with_handled (with_new (came_to q) q queued) q p carry.turn) → AreLawful setup (after q (served q queued lock) (grants q queued lock))) i (λ ne lawful.
-        (let home : ℕ = home_of setup lock.0 in
-        let w2 : World S = with_handled (with_new (came_to home) home queued) home p carry.turn in
-        subst (λ f. AreLawful setup (record (after home (served home queued lock) (grants home queued lock)) { processors = f }))
-            (fun_ext (last_of_three w.processors home (heard home) queued (served home queued lock)))
-            (granted_lawful setup w2 lock queued (if_same home queued (update w.processors home (heard home) home)) (none_left home home ne) lawful)))
+      (let home : ℕ = home_of setup lock.0 in
+      let w2 : World S = with_handled (with_new (came_to home) home queued) home p carry.turn in
+      subst (λ f. AreLawful setup (record (after home (served home queued lock) (grants home queued lock)) { processors = f }))
+      (fun_ext (last_of_three w.processors home (heard home) queued (served home queued lock)))
+      (granted_lawful setup w2 lock queued (if_same home queued (update w.processors home (heard home) home)) (none_left home home ne) lawful)))
 
   -- what is known of a body that the home is due
   pub record IsDueBody (q : ℕ) (lock : Lock) (body : Body) (queued : Processor S) : Type 0 where
@@ -187,31 +186,31 @@ module _ {S : Type 0} (setup : Setup) (first : ℕ → S) (threads : Semantics S
       at_home q i = subst (λ q. (p == q) ≡ false → w.channels p q ≡ record { from = from; to = to; carry = carry; body = Body.Req lock mode own } ∷ others →
           (told : IsTold setup q (w.courses p) (w.handled q p) record { from = from; to = to; carry = carry; body = Body.Req lock mode own } (asked lock mode own) others) → told.first.label ≡ Label.Ask lock mode → AreSent setup p others →
           IsReached setup first threads (after q (effect_of_body setup q (heard q) p carry.turn (Body.Req lock mode own)).processor (effect_of_body setup q (heard q) p carry.turn (Body.Req lock mode own)).sends)) i (λ ne oldest told label left.
-            (let home : ℕ = home_of setup lock.0 in
-            let came : AreLawful setup (came_to home) = came_lawful setup w p home record { from = from; to = to; carry = carry; body = Body.Req lock mode own } others (heard home) record {
-              oldest = oldest;
-              locks = refl;
-              mail = λ other. sym (append-nil (mail_for other (w.processors home).mail.grants));
-              from_home = λ other apart. refl;
-            } h.lawful in
-            let due : IsDue setup (came_to home) came p carry.turn lock (heard home) (asks mode) = record {
-              is_home = if_same home (heard home) (w.processors home);
-              last = let k = same_last home p in let l = h.last p home in let m : w.handled home p < carry.turn = told.first.later in omega arith;
-              next_is = next_as (next_move setup home lock.0 (w.handled home p) (same_number home) (w.courses p) _ _ told.first) (ap (move_of lock.0) label ∙ if_same lock.0 (asks mode) still);
-              others = λ other apart there. still_same (moves_of other (w.courses p)) (w.handled home p) carry.turn
-                  (next_as (next_move setup home other (w.handled home p) (rw there (same_number home)) (w.courses p) _ _ told.first) (ap (move_of other) label ∙ rw apart refl));
-            } in
-            rw (ask_counts setup (came_to home) came p carry.turn lock (heard home) mode own due)
-            (due_reached home lock (Body.Req lock mode own) (with_request (heard home) p carry.turn lock mode own) record {
-              apart = ne;
-              is_home = refl;
-              later = told.first.later;
-              flow = told.flow;
-              left = left;
-              own = refl;
-              peers = refl;
-              lawful = ask_lawful setup (came_to home) came p carry.turn lock (heard home) mode own due;
-            })))
+          (let home : ℕ = home_of setup lock.0 in
+          let came : AreLawful setup (came_to home) = came_lawful setup w p home record { from = from; to = to; carry = carry; body = Body.Req lock mode own } others (heard home) record {
+            oldest = oldest;
+            locks = refl;
+            mail = λ other. sym (append-nil (mail_for other (w.processors home).mail.grants));
+            from_home = λ other apart. refl;
+          } h.lawful in
+          let due : IsDue setup (came_to home) came p carry.turn lock (heard home) (asks mode) = record {
+            is_home = if_same home (heard home) (w.processors home);
+            last = let k = same_last home p in let l = h.last p home in let m : w.handled home p < carry.turn = told.first.later in omega arith;
+            next_is = next_as (next_move setup home lock.0 (w.handled home p) (same_number home) (w.courses p) _ _ told.first) (ap (move_of lock.0) label ∙ if_same lock.0 (asks mode) still);
+            others = λ other apart there. still_same (moves_of other (w.courses p)) (w.handled home p) carry.turn
+                (next_as (next_move setup home other (w.handled home p) (rw there (same_number home)) (w.courses p) _ _ told.first) (ap (move_of other) label ∙ rw apart refl));
+          } in
+          rw (ask_counts setup (came_to home) came p carry.turn lock (heard home) mode own due)
+          (due_reached home lock (Body.Req lock mode own) (with_request (heard home) p carry.turn lock mode own) record {
+            apart = ne;
+            is_home = refl;
+            later = told.first.later;
+            flow = told.flow;
+            left = left;
+            own = refl;
+            peers = refl;
+            lawful = ask_lawful setup (came_to home) came p carry.turn lock (heard home) mode own due;
+          })))
 
   -- a release
   pub gave_reached : (q : ℕ) (from to : Proc) (lock : Lock) (mode : Mode) (version : ℕ) (lines : List Line) → (p == q) ≡ false →
@@ -234,40 +233,40 @@ module _ {S : Type 0} (setup : Setup) (first : ℕ → S) (threads : Semantics S
           (told : IsTold setup q (w.courses p) (w.handled q p) record { from = from; to = to; carry = carry; body = Body.Release lock mode version lines } (gave lock mode version) others) →
           IsGive told.first.before told.first.label lock mode version → may_bring mode lines ≡ true → AreSent setup p others →
           IsReached setup first threads (after q (effect_of_body setup q (heard q) p carry.turn (Body.Release lock mode version lines)).processor (effect_of_body setup q (heard q) p carry.turn (Body.Release lock mode version lines)).sends)) i (λ ne oldest told give fits left.
-            (let home : ℕ = home_of setup lock.0 in
-            let came : AreLawful setup (came_to home) = came_lawful setup w p home record { from = from; to = to; carry = carry; body = Body.Release lock mode version lines } others (heard home) record {
-              oldest = oldest;
-              locks = refl;
-              mail = λ other. sym (append-nil (mail_for other (w.processors home).mail.grants));
-              from_home = λ other apart. refl;
-            } h.lawful in
-            let due : IsDue setup (came_to home) came p carry.turn lock (heard home) gives = record {
-              is_home = if_same home (heard home) (w.processors home);
-              last = let k = same_last home p in let l = h.last p home in let m : w.handled home p < carry.turn = told.first.later in omega arith;
-              next_is = next_as (next_move setup home lock.0 (w.handled home p) (same_number home) (w.courses p) _ _ told.first) (ap (move_of lock.0) give.is_label ∙ if_same lock.0 gives still);
-              others = λ other apart there. still_same (moves_of other (w.courses p)) (w.handled home p) carry.turn
-                  (next_as (next_move setup home other (w.handled home p) (rw there (same_number home)) (w.courses p) _ _ told.first) (ap (move_of other) give.is_label ∙ rw apart refl));
-            } in
-            let return : IsReturn setup (came_to home) came p carry.turn lock (heard home) mode version lines = record {
-              due = due;
-              claim = give.claim;
-              is_claim = give.is_claim;
-              is_mode = give.is_mode;
-              is_version = give.is_version ∙ ap (λ m. version_made m (have_of lock.0 told.first.before)) give.is_mode;
-              brings = fits;
-              is_processor = h.is_in p (let a : w.handled home p < carry.turn = told.first.later in let b : carry.turn ≤ length (w.courses p) = told.first.within in omega arith);
-            } in
-            rw (give_counts setup (came_to home) came p carry.turn lock (heard home) mode version lines return)
-            (due_reached home lock (Body.Release lock mode version lines) (with_release setup (heard home) p carry.turn lock mode version lines) record {
-              apart = ne;
-              is_home = refl;
-              later = told.first.later;
-              flow = told.flow;
-              left = left;
-              own = refl;
-              peers = refl;
-              lawful = give_lawful setup (came_to home) came p carry.turn lock (heard home) mode version lines return;
-            })))
+          (let home : ℕ = home_of setup lock.0 in
+          let came : AreLawful setup (came_to home) = came_lawful setup w p home record { from = from; to = to; carry = carry; body = Body.Release lock mode version lines } others (heard home) record {
+            oldest = oldest;
+            locks = refl;
+            mail = λ other. sym (append-nil (mail_for other (w.processors home).mail.grants));
+            from_home = λ other apart. refl;
+          } h.lawful in
+          let due : IsDue setup (came_to home) came p carry.turn lock (heard home) gives = record {
+            is_home = if_same home (heard home) (w.processors home);
+            last = let k = same_last home p in let l = h.last p home in let m : w.handled home p < carry.turn = told.first.later in omega arith;
+            next_is = next_as (next_move setup home lock.0 (w.handled home p) (same_number home) (w.courses p) _ _ told.first) (ap (move_of lock.0) give.is_label ∙ if_same lock.0 gives still);
+            others = λ other apart there. still_same (moves_of other (w.courses p)) (w.handled home p) carry.turn
+                (next_as (next_move setup home other (w.handled home p) (rw there (same_number home)) (w.courses p) _ _ told.first) (ap (move_of other) give.is_label ∙ rw apart refl));
+          } in
+          let return : IsReturn setup (came_to home) came p carry.turn lock (heard home) mode version lines = record {
+            due = due;
+            claim = give.claim;
+            is_claim = give.is_claim;
+            is_mode = give.is_mode;
+            is_version = give.is_version ∙ ap (λ m. version_made m (have_of lock.0 told.first.before)) give.is_mode;
+            brings = fits;
+            is_processor = h.is_in p (let a : w.handled home p < carry.turn = told.first.later in let b : carry.turn ≤ length (w.courses p) = told.first.within in omega arith);
+          } in
+          rw (give_counts setup (came_to home) came p carry.turn lock (heard home) mode version lines return)
+          (due_reached home lock (Body.Release lock mode version lines) (with_release setup (heard home) p carry.turn lock mode version lines) record {
+            apart = ne;
+            is_home = refl;
+            later = told.first.later;
+            flow = told.flow;
+            left = left;
+            own = refl;
+            peers = refl;
+            lawful = give_lawful setup (came_to home) came p carry.turn lock (heard home) mode version lines return;
+          })))
 
   heard_taking : (q : ℕ) (body : Body) → ((lock : ℕ) → grants_in lock body ≡ []) → IsTaking q body (heard q)
   heard_taking q body none = record {

@@ -1,5 +1,5 @@
 -- Messages come and go, and what is under way stays in order.
-use Rattle.std.specs.Prelude.{◌≡◌, ℕ, ◌+◌, ◌≤◌, ◌<◌, Bool, true, false, if◌then◌else◌, List, [], ◌∷◌, ◌++◌, length, filter, Option, Some, None}
+use Rattle.std.specs.Prelude.{◌≡◌, ℕ, ◌+◌, ◌≤◌, Bool, true, false, List, [], ◌∷◌, ◌++◌, length, filter, Some, None}
 use Rattle.std.proofs.Common.{arith, refl, sym, ap, ap₂, ◌∙◌, subst, append_assoc, append-nil}
 use Rattle.dsm_base.specs.declared.label.Label.{Label}
 use Rattle.dsm_base.specs.declared.setup.Setup.{Setup}
@@ -32,11 +32,12 @@ order_grown k n m (msg ∷ msgs) le h = (h.0, h.1, order_grown msg.carry.turn n 
 -- one more message, which tells of a later turn if it tells anything
 order_sent : (k n m : ℕ) (msgs : List Msg) (msg : Msg) → IsInOrder k n msgs → n ≤ m → msg.carry.turn ≡ m → AreOver n (words_in msg.carry.turn msg.body) → IsInOrder k m (msgs ++ msg ∷ [])
 order_sent k n m [] msg h le t over = (let a : k ≤ n = h in omega arith, tt, omega arith)
-order_sent k n m (first ∷ msgs) msg h le t over =
-    (h.0,
-    subst (AreOver first.carry.turn) (sym (words_append msgs (msg ∷ []))) (over_append first.carry.turn (words msgs) (words (msg ∷ [])) h.1
-    (subst (AreOver first.carry.turn) (sym (append-nil (words_in msg.carry.turn msg.body))) (over_less first.carry.turn n (words_in msg.carry.turn msg.body) (order_within first.carry.turn n msgs h.2) over))),
-    order_sent first.carry.turn n m msgs msg h.2 le t over)
+order_sent k n m (first ∷ msgs) msg h le t over = (
+  h.0,
+  subst (AreOver first.carry.turn) (sym (words_append msgs (msg ∷ []))) (over_append first.carry.turn (words msgs) (words (msg ∷ [])) h.1
+      (subst (AreOver first.carry.turn) (sym (append-nil (words_in msg.carry.turn msg.body))) (over_less first.carry.turn n (words_in msg.carry.turn msg.body) (order_within first.carry.turn n msgs h.2) over))),
+  order_sent first.carry.turn n m msgs msg h.2 le t over,
+)
 
 module _ (setup : Setup) (q : ℕ) where
   -- a message that tells nothing is sent
@@ -73,7 +74,7 @@ module _ (setup : Setup) (q : ℕ) where
   told_came course known msg word others flow tells =
       let k : known ≤ length course = order_within known (length course) (msg ∷ others) flow.in_order in
       let first : IsFirstDue (word_for setup q) known course record { turn = msg.carry.turn; body = word } (words others) =
-          first_due (word_for setup q) known course record { turn = msg.carry.turn; body = word } (words others) k (sym flow.is_due ∙ ap (λ ws. ws ++ words others) tells) in
+      first_due (word_for setup q) known course record { turn = msg.carry.turn; body = word } (words others) k (sym flow.is_due ∙ ap (λ ws. ws ++ words others) tells) in
       record { first = first; flow = record { in_order = flow.in_order.2; is_due = sym first.is_rest } }
 
   -- another message comes: nothing that the home handles was done up to its turn
@@ -85,7 +86,7 @@ module _ (setup : Setup) (q : ℕ) where
   other_came course known msg others flow none =
       let all : words others ≡ due (word_for setup q) known course = ap (λ ws. ws ++ words others) (sym none) ∙ flow.is_due in
       let parts : (due (word_for setup q) known (upto msg.carry.turn course) ≡ []) × (due (word_for setup q) msg.carry.turn course ≡ due (word_for setup q) known course) =
-          due_later (word_for setup q) known msg.carry.turn course flow.in_order.0 (order_within msg.carry.turn (length course) others flow.in_order.2) (subst (AreOver msg.carry.turn) all flow.in_order.1) in
+      due_later (word_for setup q) known msg.carry.turn course flow.in_order.0 (order_within msg.carry.turn (length course) others flow.in_order.2) (subst (AreOver msg.carry.turn) all flow.in_order.1) in
       record { is_quiet = parts.0; flow = record { in_order = flow.in_order.2; is_due = all ∙ sym parts.1 } }
 
 -- Several messages.

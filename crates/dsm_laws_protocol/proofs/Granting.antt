@@ -1,6 +1,6 @@
 -- What a home grants: the messages to each processor, and the grants in its own mailbox.
-use Rattle.std.specs.Prelude.{◌≡◌, ℕ, ◌+◌, Bool, true, false, ◌&&◌, ◌==◌, not, if◌then◌else◌, List, [], ◌∷◌, ◌++◌, map, filter}
-use Rattle.std.proofs.Common.{arith, refl, sym, ap, ◌∙◌, append-nil}
+use Rattle.std.specs.Prelude.{◌≡◌, ℕ, false, ◌==◌, not, List, [], ◌∷◌, ◌++◌, map, filter}
+use Rattle.std.proofs.Common.{arith, refl, ap, ◌∙◌, append-nil}
 use Rattle.std.proofs.lemmas.List.Elements.{filter-append}
 use Rattle.dsm_base.specs.declared.names.Lock.{Lock}
 use Rattle.dsm_base.specs.declared.setup.Setup.{Setup}
@@ -11,7 +11,7 @@ use Rattle.dsm_home.specs.LockStates.{grants_of}
 use Rattle.dsm_net.specs.Processor.{Processor}
 use Rattle.dsm_net.specs.Grants.{own_grant, grant_message, is_of, home_after_grants}
 use Rattle.dsm_laws_protocol.specs.Situations.{waits_of}
-use Rattle.dsm_laws_protocol.specs.Worlds.{grants_in, grants_said, mail_for}
+use Rattle.dsm_laws_protocol.specs.Worlds.{grants_said, mail_for}
 use Rattle.dsm_laws_protocol.proofs.Channels.{goes}
 
 module _ {S : Type 0} (setup : Setup) (me : ℕ) (s : Processor S) (lock : Lock) where

@@ -1,26 +1,26 @@
 -- A home handles a request or a release that it is due: the body counts, and the law holds.
-use Rattle.std.specs.Prelude.{◌≡◌, ℕ, suc, ◌+◌, ◌≤◌, ◌<◌, Bool, true, false, ◌&&◌, ◌==◌, nat_lt, not, if◌then◌else◌, List, [], ◌∷◌, length, find, Option, Some, None, is_some}
-use Rattle.std.proofs.Common.{arith, refl, sym, ap, ap₂, ◌∙◌, subst, inl, inr}
+use Rattle.std.specs.Prelude.{◌≡◌, ℕ, ◌<◌, true, false, ◌==◌, nat_lt, List, [], ◌∷◌, find, Some, None, is_some}
+use Rattle.std.proofs.Common.{arith, refl, sym, ap, ◌∙◌, subst, inl, inr}
 use Rattle.std.proofs.lemmas.Bool.Decides.{eqb_tells}
 use Rattle.dsm_base.specs.declared.names.Lock.{Lock}
 use Rattle.dsm_base.specs.declared.names.Mode.{Mode}
 use Rattle.dsm_base.specs.declared.holders.Holder.{Holder}
 use Rattle.dsm_base.specs.declared.setup.Setup.{Setup}
-use Rattle.dsm_base.specs.Family.{update, update_at}
+use Rattle.dsm_base.specs.Family.{update}
 use Rattle.dsm_lines.specs.declared.list.Line.{Line}
 use Rattle.dsm_msg.specs.declared.message.Body.{Body}
 use Rattle.dsm_home.specs.declared.waiting.Waiting.{Waiting}
-use Rattle.dsm_home.specs.LockStates.{LockState, mode_among, waits_for, lock_with_request, lock_after_release, version_made}
+use Rattle.dsm_home.specs.LockStates.{LockState, mode_among, lock_with_request, lock_after_release, version_made}
 use Rattle.dsm_net.specs.Processor.{Processor}
 use Rattle.dsm_net.specs.Messages.{home_of}
 use Rattle.dsm_net.specs.Effects.{may_bring, is_mode, may_ask, may_give, counts, waiting_of, with_request, with_release}
-use Rattle.dsm_laws_protocol.specs.Courses.{upto, Move, asks, gives, still, Claim, moves_of, claim_of, have_by}
-use Rattle.dsm_laws_protocol.specs.Situations.{Situation, IsLawful, modes_of, waits_of}
+use Rattle.dsm_laws_protocol.specs.Courses.{Move, asks, gives, Claim, moves_of, claim_of, have_by}
+use Rattle.dsm_laws_protocol.specs.Situations.{IsLawful, modes_of, waits_of}
 use Rattle.dsm_laws_protocol.specs.Worlds.{World, situation_at, AreLawful}
 use Rattle.dsm_laws_protocol.proofs.Families.{same_number}
 use Rattle.dsm_laws_protocol.proofs.Homes.{IsNextMove, asker_out, ask_came, give_came}
 use Rattle.dsm_laws_protocol.proofs.Rights.{IsGiver, giver}
-use Rattle.dsm_laws_protocol.proofs.Worlds.{with_new, with_handled, IsSameUpto, IsHandling, handled_lawful}
+use Rattle.dsm_laws_protocol.proofs.Worlds.{with_new, with_handled, IsSameUpto, handled_lawful}
 
 no_mode : (p : ℕ) (holders : List Holder) → modes_of p holders ≡ [] → mode_among holders p ≡ None
 no_mode p [] e = refl

@@ -1,12 +1,12 @@
 -- The holders of a lock and who waits for it, seen by processor, and which holds go together.
-use Rattle.std.specs.Prelude.{◌≡◌, ◌≢◌, ℕ, ◌==◌, Bool, true, false, ◌&&◌, if◌then◌else◌, List, [], ◌∷◌, ◌++◌, map, filter}
-use Rattle.std.proofs.Common.{arith, refl, ap, subst, inl, inr, append_assoc, append-nil, true≢false}
+use Rattle.std.specs.Prelude.{◌≡◌, ℕ, ◌==◌, Bool, true, false, ◌&&◌, List, [], ◌∷◌, ◌++◌, map}
+use Rattle.std.proofs.Common.{arith, refl, ap, subst, inl, inr, true≢false}
 use Rattle.std.proofs.lemmas.Bool.Decides.{eqb_tells}
 use Rattle.dsm_base.specs.declared.names.Mode.{Mode}
 use Rattle.dsm_base.specs.declared.holders.Holder.{Holder}
 use Rattle.dsm_base.specs.Holders.{are_compatible}
 use Rattle.dsm_home.specs.declared.waiting.Waiting.{Waiting}
-use Rattle.dsm_home.specs.LockStates.{fits_beside, holder_of, front_of, behind_front, without_holder}
+use Rattle.dsm_home.specs.LockStates.{fits_beside, holder_of, without_holder}
 use Rattle.dsm_laws_protocol.specs.Situations.{modes_of, waits_of, hold_together}
 
 abbrev pub waiting_modes : List Waiting → List Mode

@@ -1,22 +1,20 @@
 -- What the home of a lock handles and grants keeps the law of the lock.
-use Rattle.std.specs.Prelude.{◌≡◌, ◌≢◌, ℕ, zero, suc, ◌+◌, ◌≤◌, ◌<◌, Bool, true, false, ◌&&◌, ◌==◌, not, if◌then◌else◌, nat_lt, List, [], ◌∷◌, ◌++◌, length, map, filter, Option, Some, None}
-use Rattle.std.proofs.Common.{arith, refl, sym, ap, ap₂, ◌∙◌, subst, inl, inr, append_assoc, append-nil, true≢false}
-use Rattle.std.proofs.lemmas.Bool.Decides.{leb_tells, eqb_tells}
+use Rattle.std.specs.Prelude.{◌≡◌, ℕ, suc, ◌+◌, ◌≤◌, ◌<◌, Bool, true, false, ◌==◌, if◌then◌else◌, nat_lt, List, [], ◌∷◌, ◌++◌, length, map, Some, None}
+use Rattle.std.proofs.Common.{arith, refl, sym, ap, ◌∙◌, subst, inl, inr, append_assoc, append-nil, true≢false}
+use Rattle.std.proofs.lemmas.Bool.Decides.{eqb_tells}
 use Rattle.std.proofs.lemmas.List.Elements.{filter-append}
 use Rattle.std.proofs.Math.Path.{fun_ext}
 use Rattle.dsm_base.specs.declared.names.Mode.{Mode}
-use Rattle.dsm_base.specs.declared.holders.Holder.{Holder}
-use Rattle.dsm_base.specs.Holders.{are_compatible}
 use Rattle.dsm_base.specs.Family.{update}
 use Rattle.dsm_lines.specs.declared.of_objects.MailGrant.{MailGrant}
 use Rattle.dsm_home.specs.declared.waiting.Waiting.{Waiting}
-use Rattle.dsm_home.specs.LockStates.{LockState, fits_beside, holder_of, front_of, behind_front, grants_of, lock_after_grants, lock_with_request, without_holder, version_made, lock_after_release}
+use Rattle.dsm_home.specs.LockStates.{fits_beside, holder_of, front_of, behind_front, lock_with_request, version_made, lock_after_release}
 use Rattle.dsm_net.specs.Effects.{waiting_of}
-use Rattle.dsm_laws_protocol.specs.Courses.{upto, past, Move, asks, takes, gives, still, Claim, claim_of, is_excl, is_exclusive_claim, has_ask, has_ask_behind, made_by, made_after, Follows, IsCourse}
-use Rattle.dsm_laws_protocol.specs.Situations.{fresh, AreAnswers, IsGrant, AreGrants, waiting_for, Stands, is_apart, is_waiting, is_granted, has_taken, StandsIn, Situation, IsLawful, total, modes_of, waits_of, hold_together}
+use Rattle.dsm_laws_protocol.specs.Courses.{upto, Move, asks, gives, Claim, claim_of, is_excl, made_by, IsCourse}
+use Rattle.dsm_laws_protocol.specs.Situations.{fresh, AreAnswers, IsGrant, waiting_for, Stands, is_apart, is_waiting, is_granted, has_taken, StandsIn, Situation, IsLawful, total, modes_of, waits_of}
 use Rattle.dsm_laws_protocol.proofs.Families.{one_changed, total_same, total_more, turned_false, turned_true, if_same}
 use Rattle.dsm_laws_protocol.proofs.Holders.{waits_append, modes_append, modes_without, modes_without_other, without_together, both_shared, together_one}
-use Rattle.dsm_laws_protocol.proofs.Courses.{upto_grown, past_grown, past_all, upto_all, upto_length, claim_within, course_upto, asks_unclaimed, ask_newest, asks_behind_later}
+use Rattle.dsm_laws_protocol.proofs.Courses.{past_all, upto_length, claim_within, course_upto, asks_unclaimed, ask_newest, asks_behind_later}
 
 -- the next of a processor's moves that its home handles: t is its turn
 pub record IsNextMove (moves : List Move) (k t : ℕ) (next : Move) : Type 0 where

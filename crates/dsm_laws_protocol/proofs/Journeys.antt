@@ -1,5 +1,5 @@
 -- Messages are sent and come, and processors make turns: what this keeps of the law, over all locks.
-use Rattle.std.specs.Prelude.{◌≡◌, ℕ, suc, ◌+◌, Bool, true, false, ◌&&◌, ◌==◌, if◌then◌else◌, nat_lt, List, [], ◌∷◌, ◌++◌, length, filter, find, Option, Some, None}
+use Rattle.std.specs.Prelude.{◌≡◌, ℕ, suc, ◌+◌, Bool, true, false, ◌==◌, nat_lt, List, [], ◌∷◌, ◌++◌, length, filter, find, Some}
 use Rattle.std.proofs.Common.{arith, refl, sym, ap, ap₂, ◌∙◌, subst, inl, inr, append_assoc, append-nil}
 use Rattle.std.proofs.lemmas.Bool.Decides.{eqb_tells}
 use Rattle.std.proofs.lemmas.List.{length-map}
@@ -7,7 +7,7 @@ use Rattle.dsm_base.specs.declared.names.Lock.{Lock}
 use Rattle.dsm_base.specs.declared.names.Mode.{Mode}
 use Rattle.dsm_base.specs.declared.label.Label.{Label}
 use Rattle.dsm_base.specs.declared.setup.Setup.{Setup}
-use Rattle.dsm_base.specs.Family.{update, update_at}
+use Rattle.dsm_base.specs.Family.{update}
 use Rattle.dsm_lines.specs.declared.of_objects.MailGrant.{MailGrant}
 use Rattle.dsm_msg.specs.declared.message.Msg.{Msg}
 use Rattle.dsm_net.specs.Processor.{Processor}
@@ -18,7 +18,7 @@ use Rattle.dsm_laws_protocol.specs.Situations.{fresh, Situation, IsLawful}
 use Rattle.dsm_laws_protocol.specs.Worlds.{World, grants_in, grants_said, mail_for, situation_at, AreLawful}
 use Rattle.dsm_laws_protocol.proofs.Turns.{IsFound, with_move, turn_made}
 use Rattle.dsm_laws_protocol.proofs.Channels.{goes, grants_append}
-use Rattle.dsm_laws_protocol.proofs.Likeness.{AreAlike, lawful_alike, same_fresh}
+use Rattle.dsm_laws_protocol.proofs.Likeness.{lawful_alike, same_fresh}
 use Rattle.dsm_laws_protocol.proofs.Worlds.{with_new, with_sent, without_oldest, with_label}
 
 -- Messages that bring no grants are sent.
@@ -55,19 +55,19 @@ module _ {S : Type 0} (setup : Setup) (w : World S) (p to : ℕ) (msg : Msg) (ot
       grants_kept q =
           elim (eqb_tells q to) [
             | inl (t, i) ↦ elim (eqb_tells at p) [
-                | inl (u, j) ↦ rw (t, u, t) (
-                    ap (λ gs. gs ++ grants_said lock others) (is.mail lock)
-                    ∙ append_assoc (mail_for lock (w.processors to).mail.grants) (grants_in lock msg.body) (grants_said lock others)
-                    ∙ ap (λ ms. mail_for lock (w.processors to).mail.grants ++ grants_said lock ms) (sym is.oldest)
-                    ∙ ap₂ (λ x y. mail_for lock (w.processors x).mail.grants ++ grants_said lock (w.channels y x)) (sym i) (sym j))
-                | inr (u, _) ↦ rw (t, u) (
-                    ap (λ gs. gs ++ grants_said lock (w.channels at q)) (is.mail lock ∙ ap (λ gs. mail_for lock (w.processors to).mail.grants ++ gs) (is.from_home lock u) ∙ append-nil (mail_for lock (w.processors to).mail.grants))
-                    ∙ ap (λ x. mail_for lock (w.processors x).mail.grants ++ grants_said lock (w.channels at q)) (sym i))
-              ]
+              | inl (u, j) ↦ rw (t, u, t) (
+                  ap (λ gs. gs ++ grants_said lock others) (is.mail lock)
+                  ∙ append_assoc (mail_for lock (w.processors to).mail.grants) (grants_in lock msg.body) (grants_said lock others)
+                  ∙ ap (λ ms. mail_for lock (w.processors to).mail.grants ++ grants_said lock ms) (sym is.oldest)
+                  ∙ ap₂ (λ x y. mail_for lock (w.processors x).mail.grants ++ grants_said lock (w.channels y x)) (sym i) (sym j))
+              | inr (u, _) ↦ rw (t, u) (
+                  ap (λ gs. gs ++ grants_said lock (w.channels at q)) (is.mail lock ∙ ap (λ gs. mail_for lock (w.processors to).mail.grants ++ gs) (is.from_home lock u) ∙ append-nil (mail_for lock (w.processors to).mail.grants))
+                  ∙ ap (λ x. mail_for lock (w.processors x).mail.grants ++ grants_said lock (w.channels at q)) (sym i))
+            ]
             | inr (t, _) ↦ elim (eqb_tells at p) [
-                | inl (u, j) ↦ rw (t, u, t) (ap (λ y. mail_for lock (w.processors q).mail.grants ++ grants_said lock (w.channels y q)) (sym j))
-                | inr (u, _) ↦ rw (t, u) refl
-              ]
+              | inl (u, j) ↦ rw (t, u, t) (ap (λ y. mail_for lock (w.processors q).mail.grants ++ grants_said lock (w.channels y q)) (sym j))
+              | inr (u, _) ↦ rw (t, u) refl
+            ]
           ]
 
       state_kept : (w.processors at).locks lock ≡ (update w.processors to now at).locks lock
@@ -169,7 +169,7 @@ module _ {S : Type 0} (setup : Setup) (w : World S) (p : ℕ) (label : Label) (n
       mail_now n msgs e =
           ap (λ grants. fresh (suc n) (mail_for lock grants ++ grants_said lock msgs)) is.mail
           ∙ subst (λ m. fresh (suc n) (mail_for lock (filter (λ (grant : MailGrant). nat_lt (m + 1) grant.turn) (w.processors p).mail.grants) ++ grants_said lock msgs) ≡ fresh (suc n) (mail_for lock (w.processors p).mail.grants ++ grants_said lock msgs)) e
-              (mail_fresh n lock (w.processors p).mail.grants (grants_said lock msgs))
+          (mail_fresh n lock (w.processors p).mail.grants (grants_said lock msgs))
 
       grants_now : (q : ℕ) → fresh (length ((with_move before p next).moves q)) ((situation_at setup made lock).grants q) ≡ fresh (length ((with_move before p next).moves q)) (before.grants q)
       grants_now q =

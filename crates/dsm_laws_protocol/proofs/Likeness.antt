@@ -1,11 +1,11 @@
 -- Situations that are alike: the law of a lock carries over.
 use Rattle.std.specs.Prelude.{◌≡◌, ℕ, List, length}
-use Rattle.std.proofs.Common.{refl, sym, ap, ◌∙◌, subst}
+use Rattle.std.proofs.Common.{sym, ap, ◌∙◌, subst}
 use Rattle.dsm_base.specs.declared.names.Mode.{Mode}
 use Rattle.dsm_lines.specs.declared.of_objects.MailGrant.{MailGrant}
 use Rattle.dsm_home.specs.declared.waiting.Waiting.{Waiting}
 use Rattle.dsm_laws_protocol.specs.Courses.{Move}
-use Rattle.dsm_laws_protocol.specs.Situations.{fresh, AreGrants, AreAnswers, Stands, is_apart, is_waiting, is_granted, has_taken, Situation, IsLawful, modes_of, waits_of}
+use Rattle.dsm_laws_protocol.specs.Situations.{fresh, AreGrants, Stands, is_apart, is_waiting, is_granted, has_taken, Situation, IsLawful, modes_of, waits_of}
 
 -- only grants for turns that are still to come count
 stands_fresh : (q k version : ℕ) (moves : List Move) (modes : List Mode) (waits : List Waiting) (grants others : List MailGrant) → fresh (length moves) others ≡ fresh (length moves) grants →

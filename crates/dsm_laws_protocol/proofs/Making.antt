@@ -1,43 +1,40 @@
 -- A turn that a processor makes: what is reached then.
-use Rattle.std.specs.Prelude.{◌≡◌, ℕ, suc, ◌+◌, ◌≤◌, ◌<◌, Bool, true, false, ◌&&◌, ◌==◌, if◌then◌else◌, nat_lt, List, [], ◌∷◌, ◌++◌, length, filter, find, Option, Some, None}
-use Rattle.std.proofs.Common.{arith, refl, sym, ap, ap₂, ◌∙◌, subst, inl, inr, append-nil, true≢false}
+use Rattle.std.specs.Prelude.{◌≡◌, ℕ, suc, ◌+◌, ◌≤◌, ◌<◌, Bool, true, false, ◌==◌, nat_lt, List, [], ◌∷◌, ◌++◌, length, filter, find, Some, None}
+use Rattle.std.proofs.Common.{arith, refl, sym, ap, ◌∙◌, subst, inl, inr, append-nil}
 use Rattle.std.proofs.Math.Path.{fun_ext}
 use Rattle.std.proofs.lemmas.Bool.Decides.{eqb_tells}
 use Rattle.std.proofs.lemmas.List.{length-map}
 use Rattle.dsm_base.specs.declared.names.Lock.{Lock}
 use Rattle.dsm_base.specs.declared.names.Mode.{Mode}
 use Rattle.dsm_base.specs.declared.label.Label.{Label}
-use Rattle.dsm_base.specs.declared.setup.Object.{Object}
 use Rattle.dsm_base.specs.declared.setup.Setup.{Setup}
-use Rattle.dsm_base.specs.Family.{update, update_at}
+use Rattle.dsm_base.specs.Family.{update}
 use Rattle.dsm_base.specs.Threads.{Semantics, AsksFirst}
-use Rattle.dsm_lines.specs.declared.list.Line.{Line}
 use Rattle.dsm_lines.specs.declared.of_objects.MailGrant.{MailGrant}
 use Rattle.dsm_msg.specs.declared.message.Body.{Body}
 use Rattle.dsm_msg.specs.declared.message.Msg.{Msg}
-use Rattle.dsm_home.specs.LockStates.{version_made}
 use Rattle.dsm_net.specs.Processor.{Own, Peer, Processor}
 use Rattle.dsm_net.specs.Inputs.{is_grant_for}
-use Rattle.dsm_net.specs.Turns.{OwnTurn, own_after, dirty_lines}
+use Rattle.dsm_net.specs.Turns.{OwnTurn}
 use Rattle.dsm_net.specs.Messages.{home_of, message}
 use Rattle.dsm_net.specs.Grants.{home_after_grants, grant_messages}
-use Rattle.dsm_net.specs.Effects.{may_bring, counts, with_last, with_request, with_release, release_of, effect_of_body, processor_after}
-use Rattle.dsm_laws_protocol.specs.Courses.{upto, Move, asks, gives, still, Claim, move_of, moves_of, claim_of, made_by, have_by, held_by, Follows, IsCourse}
-use Rattle.dsm_laws_protocol.specs.Due.{Item, due, Word, asked, gave, have_of, word_for}
+use Rattle.dsm_net.specs.Effects.{with_last, with_request, effect_of_body, processor_after}
+use Rattle.dsm_laws_protocol.specs.Courses.{upto, Move, asks, still, move_of, moves_of, claim_of, made_by, Follows, IsCourse}
+use Rattle.dsm_laws_protocol.specs.Due.{due, Word, word_for}
 use Rattle.dsm_laws_protocol.specs.Flows.{words_in, IsFlow}
-use Rattle.dsm_laws_protocol.specs.Worlds.{World, grants_in, grants_said, mail_for, AreLawful}
+use Rattle.dsm_laws_protocol.specs.Worlds.{World, grants_in, grants_said, AreLawful}
 use Rattle.dsm_laws_protocol.proofs.Families.{if_same, same_number, turned_false}
-use Rattle.dsm_laws_protocol.proofs.Courses.{upto_all, upto_grown, IsGiving, giving, claim_held}
+use Rattle.dsm_laws_protocol.proofs.Courses.{upto_all, upto_grown}
 use Rattle.dsm_laws_protocol.proofs.Due.{due_grown, due_all}
 use Rattle.dsm_laws_protocol.proofs.Channels.{goes}
 use Rattle.dsm_laws_protocol.proofs.Granting.{none_to_me}
 use Rattle.dsm_laws_protocol.proofs.Homes.{IsNextMove, next_as}
 use Rattle.dsm_laws_protocol.proofs.Flows.{AreQuiet, quiet_filter, turn_kept, turn_sent, others_sent}
 use Rattle.dsm_laws_protocol.proofs.Worlds.{with_new, with_label, with_handled, with_sent, IsSameUpto, raised, granted_lawful}
-use Rattle.dsm_laws_protocol.proofs.Journeys.{IsTurning, turned_lawful, sent_lawful}
-use Rattle.dsm_laws_protocol.proofs.Handling.{IsDue, ask_counts, ask_lawful, IsReturn, give_counts, give_lawful}
+use Rattle.dsm_laws_protocol.proofs.Journeys.{turned_lawful, sent_lawful}
+use Rattle.dsm_laws_protocol.proofs.Handling.{IsDue, ask_counts, ask_lawful}
 use Rattle.dsm_laws_protocol.proofs.Own.{IsOwn, IsOwnTurn, IsFoundFor, take_found, label_follows, own_goes_on}
-use Rattle.dsm_laws_protocol.proofs.Reached.{IsFit, AreSent, IsReached, after_turn, IsTurned, turn_reached, grants_quiet, grants_sent}
+use Rattle.dsm_laws_protocol.proofs.Reached.{IsFit, IsReached, after_turn, turn_reached, grants_quiet, grants_sent}
 use Rattle.dsm_laws_protocol.proofs.Deliveries.{last_of_three, still_same}
 
 module _ {S : Type 0} (setup : Setup) (first : ℕ → S) (threads : Semantics S) (w : World S) (h : IsReached setup first threads w) where
@@ -77,7 +74,7 @@ module _ {S : Type 0} (setup : Setup) (first : ℕ → S) (threads : Semantics S
       let k : w.handled p p ≡ length (w.courses p) = h.own_handled p in
       let l : length (moves_of lock (w.courses p)) ≡ length (w.courses p) = length-map (w.courses p) (move_of lock) in
       let same : upto (w.handled p p) (moves_of lock (label ∷ w.courses p)) ≡ moves_of lock (w.courses p) =
-          upto_grown (w.handled p p) (move_of lock label) (moves_of lock (w.courses p)) (omega arith) ∙ upto_all (w.handled p p) (moves_of lock (w.courses p)) (omega arith) in
+      upto_grown (w.handled p p) (move_of lock label) (moves_of lock (w.courses p)) (omega arith) ∙ upto_all (w.handled p p) (moves_of lock (w.courses p)) (omega arith) in
       record {
         before = moves_of lock (w.courses p);
         later = omega arith;
@@ -175,12 +172,12 @@ module _ {S : Type 0} (setup : Setup) (first : ℕ → S) (threads : Semantics S
       AreLawful setup (after_turn setup first threads w h p label (home_after_grants setup p queued lock) (grant_messages setup p queued lock))
   granted_turn p label now lock queued i =
       subst (λ p. AreLawful setup (with_handled (with_new (own_made p label now) p queued) p p (length (w.courses p) + 1)) →
-          AreLawful setup (after_turn setup first threads w h p label (home_after_grants setup p queued lock) (grant_messages setup p queued lock))) i (λ lawful.
-        (let home : ℕ = home_of setup lock.0 in
-        let w2 : World S = with_handled (with_new (own_made home label now) home queued) home home (length (w.courses home) + 1) in
-        subst (λ f. AreLawful setup (record (after_turn setup first threads w h home label (home_after_grants setup home queued lock) (grant_messages setup home queued lock)) { processors = f }))
-            (fun_ext (last_of_three w.processors home now queued (home_after_grants setup home queued lock)))
-            (granted_lawful setup w2 lock queued (if_same home queued (update w.processors home now home)) (h.none home) lawful)))
+      AreLawful setup (after_turn setup first threads w h p label (home_after_grants setup p queued lock) (grant_messages setup p queued lock))) i (λ lawful.
+      (let home : ℕ = home_of setup lock.0 in
+      let w2 : World S = with_handled (with_new (own_made home label now) home queued) home home (length (w.courses home) + 1) in
+      subst (λ f. AreLawful setup (record (after_turn setup first threads w h home label (home_after_grants setup home queued lock) (grant_messages setup home queued lock)) { processors = f }))
+      (fun_ext (last_of_three w.processors home now queued (home_after_grants setup home queued lock)))
+      (granted_lawful setup w2 lock queued (if_same home queued (update w.processors home now home)) (h.none home) lawful)))
 
   -- what is known once p has handled its own body
   pub record IsOwnBody (p : ℕ) (label : Label) (now : Processor S) (lock : Lock) (queued : Processor S) : Type 0 where
@@ -228,16 +225,16 @@ module _ {S : Type 0} (setup : Setup) (first : ℕ → S) (threads : Semantics S
       IsReached setup first threads (after_turn setup first threads w h p (Label.Ask lock mode) (effect_of_body setup p now p now.own.turns (Body.Req lock mode own)).processor (effect_of_body setup p now p now.own.turns (Body.Req lock mode own)).sends)
   own_asked p lock mode now own i =
       subst (λ p. IsMaking p (Label.Ask lock mode) now →
-          IsReached setup first threads (after_turn setup first threads w h p (Label.Ask lock mode) (effect_of_body setup p now p now.own.turns (Body.Req lock mode own)).processor (effect_of_body setup p now p now.own.turns (Body.Req lock mode own)).sends)) i (λ is.
-        (let home : ℕ = home_of setup lock.0 in
-        let w1 : World S = own_made home (Label.Ask lock mode) now in
-        let due : IsDue setup w1 is.lawful home now.own.turns lock now (asks mode) = own_due lock (Label.Ask lock mode) now (asks mode) is (if_same lock.0 (asks mode) still) (λ other ne. rw ne refl) in
-        rw (ask_counts setup w1 is.lawful home now.own.turns lock now mode own due)
-        (own_reached home (Label.Ask lock mode) now lock (with_request now home now.own.turns lock mode own) record {
-          is = is;
-          is_home = refl;
-          no_other = λ q ne. rw ne refl;
-          own = refl;
-          peers = refl;
-          lawful = ask_lawful setup w1 is.lawful home now.own.turns lock now mode own due;
-        })))
+      IsReached setup first threads (after_turn setup first threads w h p (Label.Ask lock mode) (effect_of_body setup p now p now.own.turns (Body.Req lock mode own)).processor (effect_of_body setup p now p now.own.turns (Body.Req lock mode own)).sends)) i (λ is.
+      (let home : ℕ = home_of setup lock.0 in
+      let w1 : World S = own_made home (Label.Ask lock mode) now in
+      let due : IsDue setup w1 is.lawful home now.own.turns lock now (asks mode) = own_due lock (Label.Ask lock mode) now (asks mode) is (if_same lock.0 (asks mode) still) (λ other ne. rw ne refl) in
+      rw (ask_counts setup w1 is.lawful home now.own.turns lock now mode own due)
+      (own_reached home (Label.Ask lock mode) now lock (with_request now home now.own.turns lock mode own) record {
+        is = is;
+        is_home = refl;
+        no_other = λ q ne. rw ne refl;
+        own = refl;
+        peers = refl;
+        lawful = ask_lawful setup w1 is.lawful home now.own.turns lock now mode own due;
+      })))

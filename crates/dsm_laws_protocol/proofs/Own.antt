@@ -1,23 +1,21 @@
 -- What a turn leaves of a processor's own, at one lock, and how its label comes about.
-use Rattle.std.specs.Prelude.{◌≡◌, ℕ, ◌+◌, ◌<◌, ◌==◌, Bool, true, false, if◌then◌else◌, List, [], ◌∷◌, length, find, Option, Some, None, option_map}
-use Rattle.std.proofs.Common.{arith, refl, sym, ap, ap₂, ◌∙◌, subst, inl, inr}
+use Rattle.std.specs.Prelude.{◌≡◌, ℕ, ◌+◌, ◌==◌, Bool, true, false, if◌then◌else◌, List, ◌∷◌, length, find, Option, Some, None, option_map}
+use Rattle.std.proofs.Common.{arith, refl, sym, ap, ◌∙◌, subst, inl, inr}
 use Rattle.std.proofs.lemmas.Bool.Decides.{eqb_tells}
 use Rattle.dsm_base.specs.declared.names.Lock.{Lock}
 use Rattle.dsm_base.specs.declared.names.Mode.{Mode}
 use Rattle.dsm_base.specs.declared.label.Label.{Label}
 use Rattle.dsm_base.specs.declared.label.Want.{Want}
 use Rattle.dsm_base.specs.declared.setup.Setup.{Setup}
-use Rattle.dsm_base.specs.Family.{update}
 use Rattle.dsm_base.specs.Access.{is_exclusive}
 use Rattle.dsm_base.specs.Threads.{Semantics, AsksFirst, state_after}
 use Rattle.dsm_base.specs.Plain.{label_of, held_after}
-use Rattle.dsm_lines.specs.declared.list.Line.{Line}
 use Rattle.dsm_lines.specs.declared.of_objects.MailGrant.{MailGrant}
 use Rattle.dsm_net.specs.Processor.{Own, Processor}
 use Rattle.dsm_net.specs.Inputs.{Input, is_grant_for, input_of_grant, input_for}
 use Rattle.dsm_net.specs.Turns.{OwnTurn, own_view, turn_with, own_turn, own_versions_after, own_after}
 use Rattle.dsm_laws_runs.proofs.Turns.{Outcome}
-use Rattle.dsm_laws_protocol.specs.Courses.{Move, asks, takes, gives, still, Claim, claim_of, is_excl, have_by, held_by, move_of, moves_of, Follows, IsCourse}
+use Rattle.dsm_laws_protocol.specs.Courses.{Move, is_excl, have_by, held_by, move_of, moves_of, Follows, IsCourse}
 use Rattle.dsm_laws_protocol.proofs.Families.{turned_true, turned_false}
 use Rattle.dsm_laws_protocol.proofs.Courses.{IsGiving, giving, claim_held}
 use Rattle.dsm_laws_protocol.proofs.Threads.{is_other, Answer, ByTake, ByAsk, ByGive, ByOther, answered, outcome_of, IsMade, follows}
@@ -45,16 +43,17 @@ pub version_move : (versions : ℕ → ℕ) (held : ℕ → Option Mode) (lock :
 version_move versions held lock moves (Label.Give other) h f e v =
     elim (eqb_tells other.0 lock) [
       | inl (t, i) ↦ (
-        let g : IsGiving moves = giving moves (rw t at f) in
-        let x : is_exclusive (held lock) ≡ is_excl g.claim.mode = exclusive_same (held lock) g.claim.mode (e ∙ claim_held moves g.claim h g.is_claim g.is_taken) in
-        let y : is_exclusive (held other.0) ≡ is_excl g.claim.mode = ap (λ l. is_exclusive (held l)) i ∙ x in
-        rw (t, g.is_claim) (plain (is_excl g.claim.mode) y t i))
+          let g : IsGiving moves = giving moves (rw t at f) in
+          let x : is_exclusive (held lock) ≡ is_excl g.claim.mode = exclusive_same (held lock) g.claim.mode (e ∙ claim_held moves g.claim h g.is_claim g.is_taken) in
+          let y : is_exclusive (held other.0) ≡ is_excl g.claim.mode = ap (λ l. is_exclusive (held l)) i ∙ x in
+          rw (t, g.is_claim) (plain (is_excl g.claim.mode) y t i))
       | inr (t, _) ↦ rw t (apart (is_exclusive (held other.0)) refl t)
     ]
   where
     plain : (b : Bool) → is_exclusive (held other.0) ≡ b → (other.0 == lock) ≡ true → other.0 ≡ lock → own_versions_after versions held (Label.Give other) lock ≡ (if b then have_by moves + 1 else have_by moves)
     plain true x t i = rw (x, turned_true other.0 lock t) (ap (λ l. versions l + 1) i ∙ ap (λ n. n + 1) v)
     plain false x t i = rw x v
+
     apart : (b : Bool) → is_exclusive (held other.0) ≡ b → (other.0 == lock) ≡ false → own_versions_after versions held (Label.Give other) lock ≡ have_by moves
     apart true x t = rw (x, turned_false lock other.0 t) v
     apart false x t = rw x v
@@ -139,6 +138,9 @@ module _ {S : Type 0} (setup : Setup) (threads : Semantics S) (first : S) (p : �
       turns = let k = own.turns in omega arith;
       held = λ lock. held_move s.own.held lock (moves_of lock course) turn.label (own.held lock);
       versions = λ lock. version_move s.own.versions s.own.held lock (moves_of lock course) turn.label (lawful lock) (label_follows lock) (own.held lock) (own.versions lock);
-      made = (own.made, subst (λ x. Outcome (threads.want x) turn.label) own.thread
-          (outcome_of setup.bindings p (own_view s.own is.input.number) (threads.text s.own.thread) (threads.want s.own.thread) turn.label is.is_label));
+      made = (
+        own.made,
+        subst (λ x. Outcome (threads.want x) turn.label) own.thread
+            (outcome_of setup.bindings p (own_view s.own is.input.number) (threads.text s.own.thread) (threads.want s.own.thread) turn.label is.is_label),
+      );
     }

@@ -1,5 +1,5 @@
 -- Where a home is due nothing, nothing was done to its locks; and what it is due first is the next move at each of them.
-use Rattle.std.specs.Prelude.{◌≡◌, ℕ, ◌+◌, ◌<◌, ◌≤◌, Bool, true, false, ◌==◌, if◌then◌else◌, nat_lt, List, [], ◌∷◌, ◌++◌, length, map, Option, Some, None}
+use Rattle.std.specs.Prelude.{◌≡◌, ℕ, ◌+◌, Bool, true, false, ◌==◌, List, [], ◌∷◌, length, Option, Some, None}
 use Rattle.std.proofs.Common.{arith, refl, sym, ap, ◌∙◌, subst, inl, inr}
 use Rattle.std.proofs.lemmas.Bool.Decides.{leb_tells, eqb_tells}
 use Rattle.std.proofs.lemmas.List.{length-map}
@@ -9,7 +9,7 @@ use Rattle.dsm_base.specs.declared.label.Label.{Label}
 use Rattle.dsm_base.specs.declared.setup.Setup.{Setup}
 use Rattle.dsm_home.specs.LockStates.{version_made}
 use Rattle.dsm_net.specs.Messages.{home_of}
-use Rattle.dsm_laws_protocol.specs.Courses.{upto, Move, asks, takes, gives, still, Claim, claim_of, made_by, move_of, moves_of}
+use Rattle.dsm_laws_protocol.specs.Courses.{upto, Move, Claim, claim_of, made_by, move_of, moves_of}
 use Rattle.dsm_laws_protocol.specs.Due.{Item, items, due, IsFirstDue, Word, asked, gave, word_of_give, have_of, word_for}
 use Rattle.dsm_laws_protocol.proofs.Courses.{upto_grown, upto_all, upto_map}
 use Rattle.dsm_laws_protocol.proofs.Due.{append_empty, due_grown}
@@ -42,10 +42,10 @@ module _ (setup : Setup) (home lock : ℕ) (is_home : (home_of setup lock == hom
   untold before (Label.Give other) e =
       elim (eqb_tells other.0 lock) [
         | inl (t, i) ↦ (
-          let k : (home_of setup other.0 == home) ≡ true = rw i is_home in
-          let n : claim_of (moves_of other.0 before) ≡ None = no_give other _ _ (rw k at e) in
-          let m : claim_of (moves_of lock before) ≡ None = rw i at n in
-          rw t record { same_claim = sym m; same_made = rw m refl })
+            let k : (home_of setup other.0 == home) ≡ true = rw i is_home in
+            let n : claim_of (moves_of other.0 before) ≡ None = no_give other _ _ (rw k at e) in
+            let m : claim_of (moves_of lock before) ≡ None = rw i at n in
+            rw t record { same_claim = sym m; same_made = rw m refl })
         | inr (t, i) ↦ rw t record { same_claim = refl; same_made = refl }
       ]
   untold before (Label.Arrive bar) e = record { same_claim = refl; same_made = refl }
@@ -60,10 +60,10 @@ module _ (setup : Setup) (home lock : ℕ) (is_home : (home_of setup lock == hom
   quiet k (label ∷ before) e =
       elim (leb_tells k (length before)) [
         | inl (_, less) ↦ (
-          let both : (due (word_for setup home) k before ≡ []) × (items (length before + 1) (word_for setup home before label) ≡ []) = append_empty _ _ (sym (due_grown (word_for setup home) k label before less) ∙ e) in
-          let now : IsSameRight (moves_of lock (label ∷ before)) (moves_of lock before) = untold before label (no_items (length before + 1) _ both.1) in
-          let more : IsSameRight (moves_of lock before) (moves_of lock (upto k before)) = quiet k before both.0 in
-          rw (upto_grown k label before less) record { same_claim = now.same_claim ∙ more.same_claim; same_made = now.same_made ∙ more.same_made })
+            let both : (due (word_for setup home) k before ≡ []) × (items (length before + 1) (word_for setup home before label) ≡ []) = append_empty _ _ (sym (due_grown (word_for setup home) k label before less) ∙ e) in
+            let now : IsSameRight (moves_of lock (label ∷ before)) (moves_of lock before) = untold before label (no_items (length before + 1) _ both.1) in
+            let more : IsSameRight (moves_of lock before) (moves_of lock (upto k before)) = quiet k before both.0 in
+            rw (upto_grown k label before less) record { same_claim = now.same_claim ∙ more.same_claim; same_made = now.same_made ∙ more.same_made })
         | inr (_, more) ↦ rw (upto_all k (label ∷ before) (omega arith)) record { same_claim = refl; same_made = refl }
       ]
 

@@ -1,9 +1,8 @@
 -- What holds of all that units reach, and what carries it over a turn or a delivery.
-use Rattle.std.specs.Prelude.{◌≡◌, ◌≢◌, ℕ, suc, ◌+◌, ◌≤◌, ◌<◌, Bool, true, false, ◌&&◌, ◌==◌, not, if◌then◌else◌, List, [], ◌∷◌, ◌++◌, length, filter, map}
+use Rattle.std.specs.Prelude.{◌≡◌, ℕ, ◌+◌, ◌≤◌, ◌<◌, Bool, true, false, ◌==◌, not, List, [], ◌∷◌, ◌++◌, length, filter, map}
 use Rattle.std.proofs.Common.{arith, refl, sym, ap, ap₂, ◌∙◌, subst, inl, inr, append-nil, true≢false}
 use Rattle.std.proofs.lemmas.Bool.Decides.{eqb_tells}
 use Rattle.dsm_base.specs.declared.names.Lock.{Lock}
-use Rattle.dsm_base.specs.declared.names.Mode.{Mode}
 use Rattle.dsm_base.specs.declared.label.Label.{Label}
 use Rattle.dsm_base.specs.declared.setup.Setup.{Setup}
 use Rattle.dsm_base.specs.Family.{update, update_at}
@@ -12,17 +11,16 @@ use Rattle.dsm_msg.specs.declared.message.Body.{Body}
 use Rattle.dsm_msg.specs.declared.message.Msg.{Msg}
 use Rattle.dsm_home.specs.declared.waiting.Waiting.{Waiting}
 use Rattle.dsm_home.specs.LockStates.{grants_of}
-use Rattle.dsm_net.specs.Processor.{Own, Peer, Processor, start_processor}
+use Rattle.dsm_net.specs.Processor.{Processor}
 use Rattle.dsm_net.specs.Messages.{home_of}
 use Rattle.dsm_net.specs.Effects.{may_bring}
 use Rattle.dsm_net.specs.Grants.{grant_message, is_of, grant_messages}
 use Rattle.dsm_laws_protocol.specs.Flows.{IsFlow}
 use Rattle.dsm_laws_protocol.specs.Worlds.{World, grants_in, AreLawful}
 use Rattle.dsm_laws_protocol.proofs.Channels.{goes}
-use Rattle.dsm_laws_protocol.proofs.Families.{turned_false, turned_true, same_number}
+use Rattle.dsm_laws_protocol.proofs.Families.{same_number}
 use Rattle.dsm_laws_protocol.proofs.Flows.{AreQuiet, quiet_filter, others_sent}
 use Rattle.dsm_laws_protocol.proofs.Own.{IsOwn}
-use Rattle.dsm_laws_protocol.proofs.Turns.{start_rights}
 
 -- What is sent.
 
@@ -125,9 +123,9 @@ module _ {S : Type 0} (setup : Setup) (first : ℕ → S) (threads : Semantics S
     other_pair r =
         elim (eqb_tells r p) [
           | inl (t, i) ↦ elim (eqb_tells r q) [
-              | inl (u, j) ↦ absurd (true≢false (sym (rw i at u) ∙ is.apart))
-              | inr (u, _) ↦ rw (t, u) (ap (λ a. w.channels a r) (sym i))
-            ]
+            | inl (u, j) ↦ absurd (true≢false (sym (rw i at u) ∙ is.apart))
+            | inr (u, _) ↦ rw (t, u) (ap (λ a. w.channels a r) (sym i))
+          ]
           | inr (t, _) ↦ rw t refl
         ]
 
@@ -142,13 +140,13 @@ module _ {S : Type 0} (setup : Setup) (first : ℕ → S) (threads : Semantics S
     flow_left a b ne =
         elim (eqb_tells a p) [
           | inl (t, i) ↦ elim (eqb_tells b q) [
-              | inl (u, j) ↦ rw (t, u, t) (subst (λ x. IsFlow setup x (w.courses a) turn others) (sym j) (subst (λ x. IsFlow setup q (w.courses x) turn others) (sym i) is.flow))
-              | inr (u, _) ↦ rw (t, u) (subst (λ x. IsFlow setup b (w.courses a) (w.handled b a) (w.channels x b)) i (h.flows a b ne))
-            ]
+            | inl (u, j) ↦ rw (t, u, t) (subst (λ x. IsFlow setup x (w.courses a) turn others) (sym j) (subst (λ x. IsFlow setup q (w.courses x) turn others) (sym i) is.flow))
+            | inr (u, _) ↦ rw (t, u) (subst (λ x. IsFlow setup b (w.courses a) (w.handled b a) (w.channels x b)) i (h.flows a b ne))
+          ]
           | inr (t, _) ↦ elim (eqb_tells b q) [
-              | inl (u, j) ↦ rw (t, u, t) (subst (λ x. IsFlow setup b (w.courses a) (w.handled x a) (w.channels a b)) j (h.flows a b ne))
-              | inr (u, _) ↦ rw (t, u) (h.flows a b ne)
-            ]
+            | inl (u, j) ↦ rw (t, u, t) (subst (λ x. IsFlow setup b (w.courses a) (w.handled x a) (w.channels a b)) j (h.flows a b ne))
+            | inr (u, _) ↦ rw (t, u) (h.flows a b ne)
+          ]
         ]
 
     flows_now : (a b : ℕ) → (a == b) ≡ false → IsFlow setup b (w.courses a) (update_at w.handled q p turn b a) (update_at w.channels p q others a b ++ filter (goes a b) sends)
@@ -163,9 +161,9 @@ module _ {S : Type 0} (setup : Setup) (first : ℕ → S) (threads : Semantics S
     sent_left a b =
         elim (eqb_tells a p) [
           | inl (t, i) ↦ elim (eqb_tells b q) [
-              | inl (u, j) ↦ rw (t, u) (subst (λ x. AreSent setup x others) (sym i) is.left)
-              | inr (u, _) ↦ rw (t, u) (subst (λ x. AreSent setup a (w.channels x b)) i (h.sent a b))
-            ]
+            | inl (u, j) ↦ rw (t, u) (subst (λ x. AreSent setup x others) (sym i) is.left)
+            | inr (u, _) ↦ rw (t, u) (subst (λ x. AreSent setup a (w.channels x b)) i (h.sent a b))
+          ]
           | inr (t, _) ↦ rw t (h.sent a b)
         ]
 
@@ -180,9 +178,9 @@ module _ {S : Type 0} (setup : Setup) (first : ℕ → S) (threads : Semantics S
     own_handled_now r =
         elim (eqb_tells r q) [
           | inl (u, j) ↦ elim (eqb_tells r p) [
-              | inl (t, i) ↦ absurd (true≢false (sym (rw i at u) ∙ is.apart))
-              | inr (t, _) ↦ rw (u, t) (ap (λ x. w.handled x r) (sym j) ∙ h.own_handled r)
-            ]
+            | inl (t, i) ↦ absurd (true≢false (sym (rw i at u) ∙ is.apart))
+            | inr (t, _) ↦ rw (u, t) (ap (λ x. w.handled x r) (sym j) ∙ h.own_handled r)
+          ]
           | inr (u, _) ↦ rw u (h.own_handled r)
         ]
 
@@ -190,9 +188,9 @@ module _ {S : Type 0} (setup : Setup) (first : ℕ → S) (threads : Semantics S
     last_now_at a b =
         elim (eqb_tells b q) [
           | inl (u, j) ↦ elim (eqb_tells a p) [
-              | inl (t, i) ↦ rw (u, t) (subst (λ x. (now.peers x).last ≤ turn) (sym i) is.last_now)
-              | inr (t, _) ↦ rw (u, t) (is.last_same a t)
-            ]
+            | inl (t, i) ↦ rw (u, t) (subst (λ x. (now.peers x).last ≤ turn) (sym i) is.last_now)
+            | inr (t, _) ↦ rw (u, t) (is.last_same a t)
+          ]
           | inr (u, _) ↦ rw u (h.last a b)
         ]
 
@@ -248,9 +246,9 @@ module _ {S : Type 0} (setup : Setup) (first : ℕ → S) (threads : Semantics S
     handled_other a b ne =
         elim (eqb_tells b p) [
           | inl (u, j) ↦ elim (eqb_tells a p) [
-              | inl (t, i) ↦ absurd (true≢false (sym (rw (i, j) (same_number p)) ∙ ne))
-              | inr (t, _) ↦ rw (u, t) (ap (λ x. w.handled x a) (sym j))
-            ]
+            | inl (t, i) ↦ absurd (true≢false (sym (rw (i, j) (same_number p)) ∙ ne))
+            | inr (t, _) ↦ rw (u, t) (ap (λ x. w.handled x a) (sym j))
+          ]
           | inr (u, _) ↦ rw u refl
         ]
 
@@ -275,9 +273,9 @@ module _ {S : Type 0} (setup : Setup) (first : ℕ → S) (threads : Semantics S
     last_turned a b =
         elim (eqb_tells b p) [
           | inl (u, j) ↦ elim (eqb_tells a p) [
-              | inl (t, i) ↦ rw (u, t) (subst (λ x. (now.peers x).last ≤ length (w.courses p) + 1) (sym i) is.last_own)
-              | inr (t, _) ↦ rw (u, t) (is.last_same a t)
-            ]
+            | inl (t, i) ↦ rw (u, t) (subst (λ x. (now.peers x).last ≤ length (w.courses p) + 1) (sym i) is.last_own)
+            | inr (t, _) ↦ rw (u, t) (is.last_same a t)
+          ]
           | inr (u, _) ↦ rw u (h.last a b)
         ]
 

@@ -1,33 +1,32 @@
 -- What holds of all that units reach, after every run; and who holds a lock then.
-use Rattle.std.specs.Prelude.{◌≡◌, ◌≢◌, ℕ, ◌+◌, ◌<◌, Bool, true, false, ◌==◌, if◌then◌else◌, List, [], ◌∷◌, ◌++◌, length, map, filter, Option, Some, None}
-use Rattle.std.proofs.Common.{arith, refl, sym, ap, ap₂, ◌∙◌, subst, inl, inr}
+use Rattle.std.specs.Prelude.{◌≡◌, ℕ, ◌+◌, ◌<◌, Bool, true, false, ◌==◌, List, [], ◌∷◌, ◌++◌, filter, Option, Some, None}
+use Rattle.std.proofs.Common.{arith, refl, sym, ap, ◌∙◌, subst, inl, inr}
 use Rattle.std.proofs.lemmas.Bool.Decides.{eqb_tells}
 use Rattle.dsm_base.specs.declared.names.Mode.{Mode}
 use Rattle.dsm_base.specs.declared.act.Act.{Act}
 use Rattle.dsm_base.specs.declared.setup.Setup.{Setup}
-use Rattle.dsm_base.specs.Family.{update, update_at}
+use Rattle.dsm_base.specs.Family.{update_at}
 use Rattle.dsm_base.specs.Holders.{are_compatible}
 use Rattle.dsm_base.specs.Threads.{Semantics}
 use Rattle.dsm_laws_runs.specs.Versions.{AllAskFirst}
 use Rattle.dsm_msg.specs.declared.message.Body.{Body}
-use Rattle.dsm_msg.specs.declared.message.Msg.{Msg}
 use Rattle.dsm_net.specs.declared.trace.Letter.{Letter}
 use Rattle.dsm_net.specs.declared.trace.Rec.{Rec}
 use Rattle.dsm_net.specs.declared.trace.Group.{Group}
 use Rattle.dsm_net.specs.Processor.{Processor, start_processor}
 use Rattle.dsm_net.specs.Turns.{OwnTurn, own_turn}
 use Rattle.dsm_net.specs.Messages.{keeper_of, with_carry}
-use Rattle.dsm_net.specs.Effects.{Effect, counts, effect_of, effect_of_body, body_of, processor_after, effect_of_telling_to, effect_of_telling, effect_of_message, effect_of_turn}
+use Rattle.dsm_net.specs.Effects.{Effect, counts, effect_of, effect_of_body, body_of, processor_after, effect_of_telling_to, effect_of_telling, effect_of_turn}
 use Rattle.dsm_net.specs.Net.{Net, start_net}
 use Rattle.dsm_net.specs.Units.{Outcome, Made, with_effect, step_with, step_of, delivery_of, unit_of}
 use Rattle.dsm_net.specs.Fits.{Done, FitsUnits, IsWithin, acts_of, run_of}
 use Rattle.dsm_laws_protocol.specs.Holding.{AreWithin, HoldTogether}
-use Rattle.dsm_laws_protocol.specs.Courses.{held_by, moves_of}
-use Rattle.dsm_laws_protocol.specs.Worlds.{World, said, IsNet, AreLawful, situation_at}
+use Rattle.dsm_laws_protocol.specs.Courses.{moves_of}
+use Rattle.dsm_laws_protocol.specs.Worlds.{World, said, IsNet, situation_at}
 use Rattle.dsm_laws_protocol.proofs.Families.{turned_false, apart_false}
 use Rattle.dsm_laws_protocol.proofs.Courses.{HasLock, held_has}
 use Rattle.dsm_laws_protocol.proofs.Holders.{both_shared}
-use Rattle.dsm_laws_protocol.proofs.Rights.{IsHolder, holder}
+use Rattle.dsm_laws_protocol.proofs.Rights.{holder}
 use Rattle.dsm_laws_protocol.proofs.Turns.{start_rights}
 use Rattle.dsm_laws_protocol.proofs.Channels.{goes, IsAfter, IsPlain, effect_after}
 use Rattle.dsm_laws_protocol.proofs.Own.{own_turn_is}
@@ -125,9 +124,9 @@ module _ {S : Type 0} (setup : Setup) (first : ℕ → S) (threads : Semantics S
     popped_said p q others a b =
         elim (eqb_tells a p) [
           | inl (t, i) ↦ elim (eqb_tells b q) [
-              | inl (u, j) ↦ rw (t, u) refl
-              | inr (u, _) ↦ rw (t, u) (h.is_net.under_way p b)
-            ]
+            | inl (u, j) ↦ rw (t, u) refl
+            | inr (u, _) ↦ rw (t, u) (h.is_net.under_way p b)
+          ]
           | inr (t, _) ↦ rw t (h.is_net.under_way a b)
         ]
 
@@ -182,12 +181,12 @@ module _ {S : Type 0} (setup : Setup) (first : ℕ → S) (threads : Semantics S
       let w : World S = h.world in
       let lawful = h.reached.lawful lock in
       let has : (r : ℕ) (x : Processor S) (mode : Mode) → (run_of setup first threads fits.done).net.processors r ≡ Some x → x.own.held lock ≡ Some mode → HasLock (moves_of lock (w.courses r)) mode =
-          λ r x mode at held. held_has (moves_of lock (w.courses r)) mode (lawful.courses r)
-              (sym ((h.reached.owns r).held lock) ∙ ap (λ (y : Processor S). y.own.held lock) (same_processor (w.processors r) x (sym (h.is_net.up r) ∙ at)) ∙ held) in
+      λ r x mode at held. held_has (moves_of lock (w.courses r)) mode (lawful.courses r)
+      (sym ((h.reached.owns r).held lock) ∙ ap (λ (y : Processor S). y.own.held lock) (same_processor (w.processors r) x (sym (h.is_net.up r) ∙ at)) ∙ held) in
       shared_both one other (both_shared p q (situation_at setup w lock).state.holders one other [] [] lawful.together
-          (turned_false p q (apart_false p q ne))
-          (holder setup.procs (situation_at setup w lock) lawful p one (has p s one at_p holds_p)).is_alone
-          (holder setup.procs (situation_at setup w lock) lawful q other (has q t other at_q holds_q)).is_alone)
+      (turned_false p q (apart_false p q ne))
+      (holder setup.procs (situation_at setup w lock) lawful p one (has p s one at_p holds_p)).is_alone
+      (holder setup.procs (situation_at setup w lock) lawful q other (has q t other at_q holds_q)).is_alone)
     where
       same_processor : (x y : Processor S) → Some x ≡ Some y → x ≡ y
       same_processor x y e = cc

@@ -1,15 +1,15 @@
 -- What the law of a lock tells: who holds the lock, at which version it is, and what a grant allows.
-use Rattle.std.specs.Prelude.{◌≡◌, ◌≢◌, ℕ, zero, suc, ◌+◌, ◌≤◌, ◌<◌, Bool, true, false, ◌==◌, if◌then◌else◌, List, [], ◌∷◌, length, find, Option, Some, None}
-use Rattle.std.proofs.Common.{arith, refl, sym, ap, ◌∙◌, subst, inl, inr, true≢false}
+use Rattle.std.specs.Prelude.{◌≡◌, ℕ, suc, ◌+◌, ◌≤◌, ◌<◌, true, false, ◌==◌, [], ◌∷◌, length, find, Some, None}
+use Rattle.std.proofs.Common.{arith, sym, ap, ◌∙◌, subst, inl, inr}
 use Rattle.std.proofs.lemmas.Bool.Decides.{eqb_tells, leb_tells}
 use Rattle.dsm_base.specs.declared.names.Mode.{Mode}
 use Rattle.dsm_base.specs.Holders.{are_compatible}
 use Rattle.dsm_lines.specs.declared.of_objects.MailGrant.{MailGrant}
-use Rattle.dsm_laws_protocol.specs.Courses.{upto, past, Move, takes, gives, Claim, claim_of, is_excl, is_exclusive_claim, has_ask_behind, made_by, have_by, Follows, IsCourse}
-use Rattle.dsm_laws_protocol.specs.Situations.{fresh, IsGrant, AreGrants, AreAnswers, Stands, is_apart, is_waiting, is_granted, has_taken, StandsIn, Situation, IsLawful, total, modes_of, waits_of}
+use Rattle.dsm_laws_protocol.specs.Courses.{upto, takes, gives, Claim, claim_of, is_excl, is_exclusive_claim, made_by, have_by, Follows, IsCourse}
+use Rattle.dsm_laws_protocol.specs.Situations.{IsGrant, is_apart, is_waiting, is_granted, has_taken, StandsIn, Situation, IsLawful, total, modes_of}
 use Rattle.dsm_laws_protocol.proofs.Families.{total_same, turned_false}
 use Rattle.dsm_laws_protocol.proofs.Holders.{both_shared}
-use Rattle.dsm_laws_protocol.proofs.Courses.{HasLock, upto_length, upto_all, upto_grown, upto_upto, claim_within, claim_before, claim_handled, whole_handled, made_same, course_upto, newest_claim, version_kept}
+use Rattle.dsm_laws_protocol.proofs.Courses.{HasLock, upto_length, upto_grown, upto_upto, claim_within, claim_before, claim_handled, whole_handled, made_same, course_upto, newest_claim, version_kept}
 use Rattle.dsm_laws_protocol.proofs.Turns.{found_fresh, some_fresh}
 use Rattle.dsm_laws_protocol.proofs.Homes.{IsNextMove, same_some}
 
@@ -125,9 +125,9 @@ module _ (procs : ℕ) (s : Situation) (h : IsLawful procs s) (q t : ℕ) (next 
           elim (leb_tells (claim.turn + 1) (length next.before)) [
             | inl (_, le) ↦ le
             | inr (_, more) ↦ absurd (
-              let w = claim_within next.before claim is_claim in
-              let k : (version : ℕ) × (gives ≡ takes claim.mode version) = newest_claim next.before claim gives is_claim (omega arith) follows in
-              not_taken claim.mode k.0 k.1)
+                let w = claim_within next.before claim is_claim in
+                let k : (version : ℕ) × (gives ≡ takes claim.mode version) = newest_claim next.before claim gives is_claim (omega arith) follows in
+                not_taken claim.mode k.0 k.1)
           ]
 
       go : StandsIn s q → IsGiver
@@ -138,9 +138,9 @@ module _ (procs : ℕ) (s : Situation) (h : IsLawful procs s) (q t : ℕ) (next 
           let k : other ≡ claim = same_some (sym c ∙ at) in
           let lt : claim.turn + 1 ≤ length next.before = taken_before in
           let same : upto (claim.turn + 1) next.before ≡ upto (claim.turn + 1) (s.moves q) =
-              sym (upto_grown (claim.turn + 1) gives next.before lt) ∙ ap (upto (claim.turn + 1)) (sym next.is_next) ∙ upto_upto (claim.turn + 1) t (s.moves q) (let n = count in omega arith) in
+          sym (upto_grown (claim.turn + 1) gives next.before lt) ∙ ap (upto (claim.turn + 1)) (sym next.is_next) ∙ upto_upto (claim.turn + 1) t (s.moves q) (let n = count in omega arith) in
           let took : upto (claim.turn + 1) (s.moves q) ≡ takes claim.mode s.state.version ∷ upto claim.turn (s.moves q) =
-              subst (λ x. upto (x.turn + 1) (s.moves q) ≡ takes x.mode s.state.version ∷ upto x.turn (s.moves q)) k u in
+          subst (λ x. upto (x.turn + 1) (s.moves q) ≡ takes x.mode s.state.version ∷ upto x.turn (s.moves q)) k u in
           record {
             is_alone = m ∙ ap (λ x. x.mode ∷ []) k;
             is_desk = version_kept next.before claim claim.mode s.state.version (upto claim.turn (s.moves q)) (course_of_before) is_claim (omega arith) (same ∙ took);

@@ -1,5 +1,5 @@
 -- A turn of a processor keeps the law of a lock.
-use Rattle.std.specs.Prelude.{◌≡◌, ◌≢◌, ℕ, zero, suc, ◌+◌, ◌≤◌, ◌<◌, Bool, true, false, ◌==◌, if◌then◌else◌, nat_lt, List, [], ◌∷◌, ◌++◌, length, find, Option, Some, None}
+use Rattle.std.specs.Prelude.{◌≡◌, ℕ, zero, suc, ◌+◌, ◌≤◌, ◌<◌, Bool, true, false, ◌==◌, nat_lt, List, [], ◌∷◌, length, find, Some}
 use Rattle.std.proofs.Common.{arith, refl, sym, ap, ◌∙◌, subst, inl, inr}
 use Rattle.std.proofs.lemmas.Bool.Decides.{leb_tells}
 use Rattle.dsm_base.specs.declared.names.Mode.{Mode}
@@ -7,8 +7,8 @@ use Rattle.dsm_base.specs.Family.{update}
 use Rattle.dsm_lines.specs.declared.of_objects.MailGrant.{MailGrant}
 use Rattle.dsm_home.specs.declared.waiting.Waiting.{Waiting}
 use Rattle.dsm_home.specs.LockStates.{start_lock}
-use Rattle.dsm_laws_protocol.specs.Courses.{upto, past, Move, asks, takes, gives, still, Claim, claim_of, has_ask, has_ask_behind, made_by, Follows, IsCourse}
-use Rattle.dsm_laws_protocol.specs.Situations.{fresh, IsGrant, AreGrants, AreAnswers, Stands, is_apart, is_waiting, is_granted, has_taken, Situation, IsLawful, total, modes_of, waits_of}
+use Rattle.dsm_laws_protocol.specs.Courses.{upto, past, Move, asks, takes, gives, still, Claim, claim_of, has_ask, has_ask_behind, made_by, Follows}
+use Rattle.dsm_laws_protocol.specs.Situations.{fresh, IsGrant, AreGrants, Stands, is_apart, is_waiting, is_granted, has_taken, Situation, IsLawful, total}
 use Rattle.dsm_laws_protocol.proofs.Families.{one_changed, total_same}
 use Rattle.dsm_laws_protocol.proofs.Courses.{upto_grown, past_grown, past_all, upto_all, upto_length, newest_claim, whole_handled, claim_within}
 

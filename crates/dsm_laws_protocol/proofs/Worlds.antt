@@ -1,5 +1,5 @@
 -- The steps of which units are made, over all locks: what each keeps of the law.
-use Rattle.std.specs.Prelude.{◌≡◌, ℕ, suc, ◌+◌, ◌≤◌, ◌<◌, Bool, true, false, ◌==◌, if◌then◌else◌, nat_lt, List, [], ◌∷◌, ◌++◌, length, map, filter}
+use Rattle.std.specs.Prelude.{◌≡◌, ℕ, ◌≤◌, true, false, ◌==◌, List, [], ◌∷◌, ◌++◌, length, map, filter}
 use Rattle.std.proofs.Common.{arith, refl, sym, ap, ap₂, ◌∙◌, subst, inl, inr, append_assoc, append-nil}
 use Rattle.std.proofs.lemmas.Bool.Decides.{eqb_tells}
 use Rattle.std.proofs.lemmas.List.{length-map}
@@ -8,24 +8,23 @@ use Rattle.dsm_base.specs.declared.label.Label.{Label}
 use Rattle.dsm_base.specs.declared.setup.Setup.{Setup}
 use Rattle.dsm_base.specs.Family.{update, update_at}
 use Rattle.dsm_lines.specs.declared.of_objects.MailGrant.{MailGrant}
-use Rattle.dsm_msg.specs.declared.message.Body.{Body}
 use Rattle.dsm_msg.specs.declared.message.Msg.{Msg}
 use Rattle.dsm_home.specs.declared.waiting.Waiting.{Waiting}
 use Rattle.dsm_home.specs.LockStates.{LockState, grants_of, lock_after_grants}
 use Rattle.dsm_net.specs.Processor.{Mail, Processor}
 use Rattle.dsm_net.specs.Messages.{home_of}
 use Rattle.dsm_net.specs.Grants.{own_grant, home_after_grants, grant_messages}
-use Rattle.dsm_laws_protocol.specs.Courses.{upto, Move, still, move_of, moves_of, claim_of, made_by}
-use Rattle.dsm_laws_protocol.specs.Situations.{fresh, Situation, IsLawful, waits_of}
+use Rattle.dsm_laws_protocol.specs.Courses.{upto, Move, move_of, moves_of, claim_of, made_by}
+use Rattle.dsm_laws_protocol.specs.Situations.{Situation, IsLawful, waits_of}
 use Rattle.dsm_laws_protocol.specs.Due.{due, word_for}
-use Rattle.dsm_laws_protocol.specs.Worlds.{World, grants_in, grants_said, mail_for, situation_at, AreLawful}
+use Rattle.dsm_laws_protocol.specs.Worlds.{World, grants_said, mail_for, situation_at, AreLawful}
 use Rattle.dsm_laws_protocol.proofs.Families.{at_locks, one_changed, if_same, turned_false}
 use Rattle.dsm_laws_protocol.proofs.Courses.{upto_map, upto_upto}
-use Rattle.dsm_laws_protocol.proofs.Homes.{IsNextMove, handled_more, AreGrantsAt, serve}
+use Rattle.dsm_laws_protocol.proofs.Homes.{handled_more, serve}
 use Rattle.dsm_laws_protocol.proofs.Quiet.{IsSameRight, quiet}
 use Rattle.dsm_laws_protocol.proofs.Channels.{goes, grants_append}
 use Rattle.dsm_laws_protocol.proofs.Granting.{sent_to, none_to_me, none_from, none_other, mail_now, mail_other}
-use Rattle.dsm_laws_protocol.proofs.Likeness.{AreAlike, lawful_alike, same_fresh}
+use Rattle.dsm_laws_protocol.proofs.Likeness.{lawful_alike, same_fresh}
 
 -- The steps.
 
@@ -60,10 +59,10 @@ module _ {S : Type 0} (setup : Setup) (w : World S) (home p turn : ℕ) where
   raised_at lock same h =
       elim (eqb_tells (home_of setup lock) home) [
         | inl (t, i) ↦ (
-          let u : IsSameUpto (moves_of lock (w.courses p)) (w.handled (home_of setup lock) p) turn = subst (λ r. IsSameUpto (moves_of lock (w.courses p)) (w.handled r p) turn) (sym i) (same i) in
-          lawful_alike setup.procs (record (situation_at setup w lock) { handled = update (w.handled (home_of setup lock)) p turn }) (situation_at setup (with_handled w home p turn) lock)
-          record { moves = λ q. refl; handled = λ q. rw t (ap (λ r. update (w.handled r) p turn q) i); grants = λ q. refl; state = refl }
-          (handled_more setup.procs (situation_at setup w lock) h p turn u.later u.within u.same_claim u.same_made))
+            let u : IsSameUpto (moves_of lock (w.courses p)) (w.handled (home_of setup lock) p) turn = subst (λ r. IsSameUpto (moves_of lock (w.courses p)) (w.handled r p) turn) (sym i) (same i) in
+            lawful_alike setup.procs (record (situation_at setup w lock) { handled = update (w.handled (home_of setup lock)) p turn }) (situation_at setup (with_handled w home p turn) lock)
+            record { moves = λ q. refl; handled = λ q. rw t (ap (λ r. update (w.handled r) p turn q) i); grants = λ q. refl; state = refl }
+            (handled_more setup.procs (situation_at setup w lock) h p turn u.later u.within u.same_claim u.same_made))
         | inr (t, _) ↦ lawful_alike setup.procs (situation_at setup w lock) (situation_at setup (with_handled w home p turn) lock)
             record { moves = λ q. refl; handled = λ q. rw t refl; grants = λ q. refl; state = refl } h
       ]
@@ -76,7 +75,7 @@ module _ {S : Type 0} (setup : Setup) (w : World S) (home p turn : ℕ) where
       let same : IsSameRight (moves_of lock (upto turn (w.courses p))) (moves_of lock (upto (w.handled home p) (upto turn (w.courses p)))) = quiet setup home lock is_home (w.handled home p) (upto turn (w.courses p)) none in
       let now_is : upto turn (moves_of lock (w.courses p)) ≡ moves_of lock (upto turn (w.courses p)) = upto_map (move_of lock) turn (w.courses p) in
       let old_is : moves_of lock (upto (w.handled home p) (upto turn (w.courses p))) ≡ upto (w.handled home p) (moves_of lock (w.courses p)) =
-          ap (moves_of lock) (upto_upto (w.handled home p) turn (w.courses p) later) ∙ sym (upto_map (move_of lock) (w.handled home p) (w.courses p)) in
+      ap (moves_of lock) (upto_upto (w.handled home p) turn (w.courses p) later) ∙ sym (upto_map (move_of lock) (w.handled home p) (w.courses p)) in
       record {
         later = later;
         within = rw length-map within;
@@ -176,7 +175,7 @@ module _ {S : Type 0} (setup : Setup) (w : World S) (lock : Lock) (s : Processor
   grants_other q there =
       append_assoc (mail_for lock.0 (w.processors q).mail.grants) (grants_said lock.0 (w.channels giver q)) (map grant (waits_of q ones))
       ∙ ap (λ xs. mail_for lock.0 (w.processors q).mail.grants ++ xs)
-          (ap (λ xs. grants_said lock.0 (w.channels giver q) ++ xs) (sym (sent_to setup giver s lock q ones there)) ∙ sym (grants_append lock.0 (w.channels giver q) (filter (goes giver q) msgs)))
+      (ap (λ xs. grants_said lock.0 (w.channels giver q) ++ xs) (sym (sent_to setup giver s lock q ones there)) ∙ sym (grants_append lock.0 (w.channels giver q) (filter (goes giver q) msgs)))
 
   grants_now : (q : ℕ) → (situation_at setup w lock.0).grants q ++ map grant (waits_of q ones) ≡ (situation_at setup with_grants lock.0).grants q
   grants_now = one_changed {P = λ q. (situation_at setup w lock.0).grants q ++ map grant (waits_of q ones) ≡ (situation_at setup with_grants lock.0).grants q} giver
