@@ -1,0 +1,6 @@
+//! Locks at their homes: who holds a lock, who waits for it, its version, and its lines.
+#![tactic(auto)]
+
+mod waiting;
+
+pub use waiting::{Queue, Waiting};

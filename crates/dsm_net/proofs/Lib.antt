@@ -1,0 +1,4 @@
+mod HandOver
+mod Readers
+mod ShippedLine
+mod Worked

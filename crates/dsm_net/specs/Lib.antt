@@ -1,0 +1,11 @@
+pub mod Lines
+pub mod Processor
+pub mod Inputs
+pub mod Turns
+pub mod Messages
+pub mod Grants
+pub mod Effects
+pub mod Net
+pub mod Units
+pub mod Fits
+pub mod Story
