@@ -10,3 +10,4 @@ mod Example
 mod Worked
 mod Pairs
 mod Premises
+mod TailPremises

@@ -13,7 +13,7 @@ use Rattle.dsm_laws_runs.specs.Versions.{memory_at}
 use Rattle.dsm_laws_tails.proofs.Worked.{threads, the_lock, the_bar, the_cell, they_do, by, AreMade}
 
 -- one cell that is bound to the lock
-abbrev of_lock : Setup
+abbrev pub of_lock : Setup
 of_lock = record {
   procs = 2;
   locks = 1;
@@ -177,7 +177,7 @@ processor_past_the_setup : let s = after_run owner_stores threads stored_in_its_
 processor_past_the_setup = (((((tt, refl), refl), refl), refl), refl, refl)
 
 -- `one_tail` of a version that the tail doesn't make: 0's tail gives the lock back and makes version 1; with 1's tail alone there is none
-abbrev makes_a_version : ℕ → List Want
+abbrev pub makes_a_version : ℕ → List Want
 makes_a_version =
     they_do (Want.Ask the_lock Mode.Excl 1 ∷ Want.Take the_lock Mode.Excl ∷ Want.Store the_cell (pos 5) 1 ∷ Want.Give the_lock 1 ∷ []) (Want.Quiet ∷ [])
 
