@@ -78,9 +78,9 @@ pub fn fail_so(rt: &impl Abort, alloc: Global, piece: usize, table: &[Failed]) -
     for row in table {
         let (program, other) = (row.call.program.as_bytes(), row.call.other.as_bytes());
         let mut files = files(alloc, program, other)?;
-        let mut sink = MemSink::new(alloc, piece);
-        files.fail(row.kind, row.nth)?;
-        sink.fail(row.kind, row.nth)?;
+        let mut sink = MemSink::new(alloc, piece.max(1));
+        files.fail(row.kind, row.nth.max(1))?;
+        sink.fail(row.kind, row.nth.max(1))?;
         let report = call(alloc, row.call.words, &mut files, &mut sink)?;
         is_right(rt, &row.call, &report, &sink);
     }

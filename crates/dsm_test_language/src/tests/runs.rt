@@ -1,7 +1,5 @@
 //! Turns of programs over one memory.
 
-ghost use Rattle.std.specs.Prelude.{◌≤◌, length};
-
 use crate::tests::checked::program;
 use dsm_base::Proc;
 use dsm_check::fit;
@@ -10,9 +8,7 @@ use std::alloc::Global;
 use std::test::Fail;
 
 /// What picks of a program on three processors answer, one after the other.
-pub fn picked(alloc: Global, text: &str, picks: &[u8]) -> Result<Vec<Picked>, Fail>
-    requires { length picks.now ≤ 1000 }
-{
+pub fn picked(alloc: Global, text: &str, picks: &[u8]) -> Result<Vec<Picked>, Fail> {
     let checked = program(alloc, text)?;
     fit(&checked, 3)?;
     let mut machine = Plain::new(alloc, &checked, 3)?;

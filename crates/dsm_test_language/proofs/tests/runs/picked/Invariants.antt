@@ -1,10 +1,6 @@
-use Rattle.std.proofs.Common.{◌≡◌, ◌+◌}
-use Rattle.dsm_plain.specs.Machine.{machine_of, AreBelow, IsWhole}
+use Rattle.std.proofs.Common.{◌≡◌}
+use Rattle.dsm_plain.specs.Machine.{IsWhole}
 use Rattle.dsm_test_language.proofs.tests.runs.picked.Given as goal
 
 abbrev pub invariant-loop-pick : goal.invariant-loop-pick
-invariant-loop-pick l = record {
-  whole : IsWhole l.machine;
-  procs : l.machine.setup.procs ≡ 3;
-  below : AreBelow (l.pick-index + 1) (machine_of l.machine);
-}
+invariant-loop-pick l = record { whole : IsWhole l.machine; procs : l.machine.setup.procs ≡ 3 }
