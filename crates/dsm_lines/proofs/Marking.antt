@@ -10,11 +10,11 @@ use Rattle.dsm_lines.specs.Bits.{is_bit, is_bit_of, IsFirst}
 use Rattle.dsm_lines.specs.Marking.{IsMarking}
 
 -- the family with one member replaced, at that member and at the others
-update_same : {A : Type 0} (f : ℕ → A) (k : ℕ) (v : A) (i : ℕ) → i ≡ k → update f k v i ≡ v
+pub update_same : {A : Type 0} (f : ℕ → A) (k : ℕ) (v : A) (i : ℕ) → i ≡ k → update f k v i ≡ v
 update_same f k v i is =
     elim (eqb_tells i k) as (λ _. update f k v i ≡ v) [ inl (same, _) ↦ rw same refl | inr (_, differs) ↦ absurd (differs is) ]
 
-update_other : {A : Type 0} (f : ℕ → A) (k : ℕ) (v : A) (i : ℕ) → i ≢ k → update f k v i ≡ f i
+pub update_other : {A : Type 0} (f : ℕ → A) (k : ℕ) (v : A) (i : ℕ) → i ≢ k → update f k v i ≡ f i
 update_other f k v i differs =
     elim (eqb_tells i k) as (λ _. update f k v i ≡ f i) [ inl (_, is) ↦ absurd (differs is) | inr (other, _) ↦ rw other refl ]
 

@@ -51,3 +51,15 @@ pub none_left : (test : ℕ → Bool) (a m n from end : ℕ) (result : Option �
     → filter test (range_with_len a n) ≡ filter test (range_with_len a m)
 none_left test a m n from end None start stop within first none = rest_fails test a m n from end start stop within (λ i above below. first i above)
 none_left test a m n from end (Some next) start stop within first none = absurd (none next refl)
+
+-- one number more, which passes or doesn't
+pub one_more_passes : (test : ℕ → Bool) (a m n next : ℕ) → a + m ≡ next → a + n ≡ next + 1 → test next ≡ true → filter test (range_with_len a n) ≡ filter test (range_with_len a m) ++ next ∷ []
+one_more_passes test a m n next start stop passes =
+    next_passes test a m n next next start stop (omega arith, passes, λ i above below. absurd (omega arith))
+
+pub one_more_fails : (test : ℕ → Bool) (a m n next : ℕ) → a + m ≡ next → a + n ≡ next + 1 → test next ≡ false → filter test (range_with_len a n) ≡ filter test (range_with_len a m)
+one_more_fails test a m n next start stop fails =
+    rest_fails test a m n next (next + 1) start stop (omega arith)
+    (λ i above below.
+    let same : i ≡ next = omega arith in
+    ap test same ∙ fails)

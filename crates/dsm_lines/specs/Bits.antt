@@ -13,7 +13,9 @@ is_bit words at = is_bit_of (slice_index words (at / 64)) (at % 64)
 -- the first number from here on that passes, where there is one
 abbrev pub IsFirst : (ℕ → Bool) → ℕ → Option ℕ → Type 0
 IsFirst test from None = (at : ℕ) → from ≤ at → test at ≡ false
-IsFirst test from (Some first) = (from ≤ first) × (test first ≡ true) × ((at : ℕ) → from ≤ at → at < first → test at ≡ false)
+IsFirst test from (Some first) = (from ≤ first)
+    × (test first ≡ true)
+    × ((at : ℕ) → from ≤ at → at < first → test at ≡ false)
 
 -- the summary has a bit for each word, which is set where the word isn't 0
 abbrev pub IsSummary : List ℕ → List ℕ → Type 0

@@ -13,11 +13,14 @@ AreWithin cells pieces = All (λ piece. piece.first.0 + piece.count ≤ cells) p
 -- the place of a cell once a piece is noted
 abbrev pub noted : ℕ → Piece → Option Place → ℕ → Option Place
 noted start piece before cell =
-    if has_cell cell piece then Some (record { piece = piece; line = start + (cell - piece.first.0) / 8; at = (cell - piece.first.0) % 8 }) else before
+    if has_cell cell piece
+    then Some record { piece = piece; line = start + (cell - piece.first.0) / 8; at = (cell - piece.first.0) % 8 }
+    else before
 
 -- how many cells each line of a piece has
 abbrev pub piece_widths : Piece → List ℕ
-piece_widths piece = map (λ line. min 8 (piece.count - 8 * line)) (range_with_len 0 (line_count piece))
+piece_widths piece =
+    map (λ line. min 8 (piece.count - 8 * line)) (range_with_len 0 (line_count piece))
 
 -- how many cells each line has
 abbrev pub widths_of : List Piece → List ℕ

@@ -5,3 +5,8 @@ pub mod Tables
 pub mod Bits
 pub mod Marking
 pub mod Marks
+pub mod Copies
+pub mod Pages
+pub mod LinePages
+pub mod OwnCopies
+pub mod LineImages

@@ -9,7 +9,8 @@ is_line line = nat_lt 0 (length line.values) && nat_le (length line.values) 8
 -- each number is over the one before, and the first is at least this
 abbrev pub are_lines_from : ℕ → List Line → Bool
 are_lines_from least [] = true
-are_lines_from least (line ∷ lines) = is_line line && (nat_le least line.number && are_lines_from (line.number + 1) lines)
+are_lines_from least (line ∷ lines) =
+    is_line line && (nat_le least line.number && are_lines_from (line.number + 1) lines)
 
 -- each line has one to eight values, and their numbers rise
 abbrev pub are_lines : List Line → Bool

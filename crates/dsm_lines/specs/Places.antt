@@ -1,4 +1,4 @@
--- Lines of bound cells: each piece is cut into lines of eight cells from its start, and lines are numbered over all pieces in order.
+-- Lines of bound cells: each piece is cut into eights, and lines are numbered over all pieces.
 use Rattle.std.specs.Prelude.{ℕ, ◌+◌, ◌-◌, ◌*◌, ◌/◌, ◌%◌, Bool, false, ◌==◌, if◌then◌else◌, nat_lt, min, List, [], ◌∷◌, ◌++◌, Option, Some, None}
 use Rattle.std.specs.List.{range_with_len}
 use Rattle.std.specs.Option.{option_map}
@@ -40,7 +40,9 @@ object_of pieces cell = option_map (λ piece. piece.object) (piece_of pieces cel
 abbrev pub cells_in : List Piece → ℕ → List ℕ
 cells_in [] line = []
 cells_in (piece ∷ others) line =
-    if nat_lt line (line_count piece) then range_with_len (piece.first.0 + 8 * line) (min 8 (piece.count - 8 * line)) else cells_in others (line - line_count piece)
+    if nat_lt line (line_count piece)
+    then range_with_len (piece.first.0 + 8 * line) (min 8 (piece.count - 8 * line))
+    else cells_in others (line - line_count piece)
 
 abbrev pub same_object : Object → Object → Bool
 same_object (Object.Lock lock) (Object.Lock other) = lock.0 == other.0
@@ -60,13 +62,15 @@ lines_of_span span = range_with_len span.first span.count
 abbrev pub spans_from : ℕ → List Piece → Object → List Span
 spans_from start [] object = []
 spans_from start (piece ∷ others) object =
-    one_if (same_object piece.object object) (record { first = start; count = line_count piece }) ++ spans_from (start + line_count piece) others object
+    one_if (same_object piece.object object) (record { first = start; count = line_count piece })
+    ++ spans_from (start + line_count piece) others object
 
 -- the lines of an object, rising; the lines of the first piece begin with `start`
 abbrev pub lines_from : ℕ → List Piece → Object → List ℕ
 lines_from start [] object = []
 lines_from start (piece ∷ others) object =
-    (if same_object piece.object object then range_with_len start (line_count piece) else []) ++ lines_from (start + line_count piece) others object
+    (if same_object piece.object object then range_with_len start (line_count piece) else [])
+    ++ lines_from (start + line_count piece) others object
 
 abbrev pub lines_of : List Piece → Object → List ℕ
 lines_of pieces object = lines_from 0 pieces object

@@ -15,5 +15,7 @@ pub record IsTable (pieces : List Piece) (places : List (Option Place)) (widths 
   pub placed : (cell : ℕ) → slice_index_or places cell None ≡ place_of pieces cell
   pub counted : length widths ≡ lines pieces
   pub wide : (line : ℕ) → slice_index widths line ≡ length (cells_in pieces line)
-  pub of_locks : (lock : ℕ) → slice_index_or locks lock [] ≡ spans_from 0 pieces (Object.Lock record { 0 = lock })
-  pub of_bars : (bar : ℕ) → slice_index_or bars bar [] ≡ spans_from 0 pieces (Object.Bar record { 0 = bar })
+  pub of_locks : (lock : ℕ) → slice_index_or locks lock []
+      ≡ spans_from 0 pieces (Object.Lock record { 0 = lock })
+  pub of_bars : (bar : ℕ) → slice_index_or bars bar []
+      ≡ spans_from 0 pieces (Object.Bar record { 0 = bar })

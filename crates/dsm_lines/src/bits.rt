@@ -20,7 +20,8 @@ pub fn has_bit(words: &[u64], at: usize) -> bool
 pub fn set_bit(words: &mut Items<u64>, at: usize)
     requires { at / 64 < length words.old }
     ensures bits { is_bit words.new ≡ update (is_bit words.old) at true }
-    ensures others { (word : ℕ) → word ≢ at / 64 → slice_index words.new word ≡ slice_index words.old word }
+    ensures others { (word : ℕ) → word ≢ at / 64 →
+        slice_index words.new word ≡ slice_index words.old word }
     ensures length { length words.new ≡ length words.old }
 {
     let word = words.as_slice()[at / 64];
@@ -31,7 +32,8 @@ pub fn set_bit(words: &mut Items<u64>, at: usize)
 pub fn clear_bit(words: &mut Items<u64>, at: usize)
     requires { at / 64 < length words.old }
     ensures bits { is_bit words.new ≡ update (is_bit words.old) at false }
-    ensures others { (word : ℕ) → word ≢ at / 64 → slice_index words.new word ≡ slice_index words.old word }
+    ensures others { (word : ℕ) → word ≢ at / 64 →
+        slice_index words.new word ≡ slice_index words.old word }
     ensures length { length words.new ≡ length words.old }
 {
     let word = words.as_slice()[at / 64];

@@ -4,6 +4,7 @@ ghost use Rattle.std.specs.Prelude.{ℕ};
 ghost use Rattle.dsm_lines.specs.Marking.{IsMarking};
 
 use crate::bits::{clear_bit, first_bit, first_of_word, has_bit, set_bit};
+use crate::place::Span;
 use dsm_base::MemFault;
 use sqlite_items::Items;
 use std::alloc::Global;
@@ -11,9 +12,9 @@ use std::alloc::Global;
 /// Numbers of lines, rising.
 pub type LineNumbers = Items<u32>;
 
-/// The marked ones of so many lines, which contracts see as the rising list `marked_lines`. A page of 64
-/// lines has a word with a bit a line, and 64 pages have a summary word with a bit a page that is set
-/// where its word isn't 0.
+/// The marked ones of so many lines, which contracts see as the rising list `marked_lines`. A page
+/// of 64 lines has a word with a bit a line, and 64 pages have a summary word with a bit a page
+/// that is set where its word isn't 0.
 #[derive(Debug, Drop)]
 pub struct DirtyBits {
     lines: u32,
@@ -25,7 +26,10 @@ pub struct DirtyBits {
 impl DirtyBits {
     ghost use Rattle.std.specs.Prelude.{◌≡◌, ◌<◌, ◌≤◌, ◌+◌, ◌*◌, true, false, IfOk, OnSome, IfSome};
     ghost use Rattle.dsm_base.specs.Family.{update};
+    ghost use Rattle.std.specs.List.{flat_map};
     ghost use Rattle.dsm_lines.specs.Bits.{IsFirst};
+    ghost use Rattle.dsm_lines.specs.Copies.{without};
+    ghost use Rattle.dsm_lines.specs.Places.{lines_of_span};
     ghost use Rattle.dsm_lines.specs.Marks.{marks_in, marked_lines};
 
     /// No line is marked of so many.
@@ -97,6 +101,33 @@ impl DirtyBits {
         clear_bit(&mut self.words, line as usize);
         if self.words.as_slice()[page] == 0 {
             clear_bit(&mut self.summary, page);
+        }
+    }
+
+    /// Takes the marks of neighbouring lines away.
+    fn unmark_span(&mut self, span: Span)
+        ensures unmarked { marks_in self.new ≡ without (lines_of_span span) (marks_in self.old) }
+        ensures same { self.new.lines ≡ self.old.lines }
+    {
+        let end = span.first as usize + span.count as usize;
+        let mut from = span.first;
+        while let Some(line) = self.first_from(from) {
+            if line as usize >= end {
+                return;
+            }
+            self.unmark(line);
+            from = line + 1;
+        }
+    }
+
+    /// Takes the marks of the lines of some spans away.
+    pub fn unmark_all(&mut self, spans: &[Span])
+        ensures unmarked { marks_in self.new ≡ without (flat_map lines_of_span spans.now)
+            (marks_in self.old) }
+        ensures same { self.new.lines ≡ self.old.lines }
+    {
+        for span in spans {
+            self.unmark_span(*span);
         }
     }
 

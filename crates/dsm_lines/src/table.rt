@@ -1,8 +1,9 @@
 //! The table of where cells are bound.
 
-ghost use Rattle.std.specs.Prelude.{◌≡◌, ◌<◌, ◌≤◌, ◌+◌, ◌*◌, ◌^◌, ◌-◌, ◌++◌, ℕ, [], None, Some, IfOk, OnOk, IsTrue, length, slice_index_or, map, min, if◌then◌else◌};
+ghost use Rattle.std.specs.Prelude.{◌≡◌, ◌<◌, ◌≤◌, ◌+◌, ◌*◌, ◌^◌, ◌-◌, ◌++◌, ℕ, [], true, None, Some, IfOk, OnOk, IsTrue, length, slice_index_or, map, min, if◌then◌else◌};
 ghost use Rattle.std.specs.List.{range_with_len, All};
 ghost use Rattle.dsm_base.specs.Access.{piece_of, has_cell};
+ghost use Rattle.dsm_base.specs.Setups.{are_apart};
 ghost use Rattle.dsm_base.specs.declared.setup.Object.{Object};
 ghost use Rattle.dsm_lines.specs.Places.{lines, line_count, line_of, object_of, place_of, place_from, cells_in, spans_from, same_object};
 ghost use Rattle.dsm_lines.specs.Building.{AreWithin, noted, widths_of, piece_widths};
@@ -13,8 +14,8 @@ use sqlite_items::Items;
 use std::alloc::Global;
 use std::marker::Model;
 
-/// Where the cells of a setup are bound, which contracts see as the list of its pieces. A look-up takes the
-/// same time however many pieces there are.
+/// Where the cells of a setup are bound, which contracts see as the list of its pieces. A look-up
+/// takes the same time however many pieces there are.
 #[derive(Debug, Drop)]
 pub struct BindTable {
     bindings: Bindings,
@@ -33,7 +34,8 @@ impl Model for BindTable {
 
     ghost view = { λ table. table.bindings };
 
-    ghost invariant = { λ table. IsTable table.bindings table.places table.widths table.lock_spans table.bar_spans };
+    ghost invariant = { λ table. IsTable table.bindings table.places table.widths
+        table.lock_spans table.bar_spans };
 }
 
 fn line_count(piece: Piece) -> u32
@@ -49,7 +51,8 @@ fn note_piece(places: &mut Places, piece: Piece, start: u32)
     requires small { length places.old ≤ 65536 }
     requires few { start + line_count piece < 2 ^ 32 }
     ensures length { length places.new ≡ length places.old }
-    ensures noted { (cell : ℕ) → slice_index_or places.new cell None ≡ noted start piece (slice_index_or places.old cell None) cell }
+    ensures noted { (cell : ℕ) → slice_index_or places.new cell None ≡
+        noted start piece (slice_index_or places.old cell None) cell }
 {
     let first = piece.first.0;
     for offset in 0..piece.count {
@@ -67,7 +70,8 @@ fn places_of(alloc: Global, pieces: &[Piece], cells: usize, total: u32) -> Resul
     requires within { AreWithin cells pieces.now }
     requires small { cells ≤ 65536 }
     requires all { total ≡ lines pieces.now }
-    ensures { IfOk result (λ places. (cell : ℕ) → slice_index_or places cell None ≡ place_of pieces.now cell) }
+    ensures { IfOk result (λ places. (cell : ℕ) →
+        slice_index_or places cell None ≡ place_of pieces.now cell) }
 {
     let mut places = Items::from_vec(vec![in alloc; None; cells]?);
     let mut start = total;
@@ -138,7 +142,9 @@ fn spans_of(alloc: Global, pieces: &[Piece], object: Object) -> Result<Spans, Me
 fn spans_of_locks(alloc: Global, pieces: &[Piece], locks: u16) -> Result<Items<Spans>, MemFault>
     requires few { lines pieces.now < 2 ^ 32 }
     requires small { All (λ piece. piece.count ≤ 65536) pieces.now }
-    ensures { IfOk result (λ spans. spans ≡ map (λ lock. spans_from 0 pieces.now (Object.Lock record { 0 = lock })) (range_with_len 0 locks)) }
+    ensures { IfOk result (λ spans. spans ≡
+        map (λ lock. spans_from 0 pieces.now (Object.Lock record { 0 = lock }))
+        (range_with_len 0 locks)) }
 {
     let mut all = Items::new(alloc);
     for lock in 0..locks {
@@ -151,7 +157,9 @@ fn spans_of_locks(alloc: Global, pieces: &[Piece], locks: u16) -> Result<Items<S
 fn spans_of_bars(alloc: Global, pieces: &[Piece], bars: u8) -> Result<Items<Spans>, MemFault>
     requires few { lines pieces.now < 2 ^ 32 }
     requires small { All (λ piece. piece.count ≤ 65536) pieces.now }
-    ensures { IfOk result (λ spans. spans ≡ map (λ bar. spans_from 0 pieces.now (Object.Bar record { 0 = bar })) (range_with_len 0 bars)) }
+    ensures { IfOk result (λ spans. spans ≡
+        map (λ bar. spans_from 0 pieces.now (Object.Bar record { 0 = bar }))
+        (range_with_len 0 bars)) }
 {
     let mut all = Items::new(alloc);
     for bar in 0..bars {
@@ -220,9 +228,10 @@ impl BindTable {
         self.place_of(cell).map(|place| place.piece)
     }
 
-    /// How many lines there are.
+    /// How many lines there are. No cell is in two pieces.
     pub fn lines(&self) -> u32
-        ensures { result ≡ lines self.now }
+        ensures count { result ≡ lines self.now }
+        ensures apart { are_apart self.now ≡ true }
     {
         self.widths.len() as u32
     }
