@@ -1,1 +1,3 @@
 pub mod LockStates
+pub mod HomeStates
+pub mod Homes
