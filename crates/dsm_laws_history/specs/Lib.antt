@@ -1,0 +1,2 @@
+pub mod NewerLines
+pub mod OneMemory

@@ -1,0 +1,35 @@
+//! Laws of histories: what processors that bring newer lines do, without a common memory, is a run over
+//! one memory, and which lines they bring is told by that run.
+#![tactic(auto)]
+
+ghost use Rattle.std.specs.Prelude.{ℕ, List};
+ghost use Rattle.dsm_base.specs.declared.act.Act.{Act};
+ghost use Rattle.dsm_base.specs.declared.setup.Setup.{Setup};
+ghost use Rattle.dsm_net.specs.declared.trace.Group.{Group};
+ghost use Rattle.dsm_net.specs.Fits.{FitsUnits, run_of};
+ghost use Rattle.dsm_laws_runs.specs.Versions.{AllAskFirst};
+ghost use Rattle.dsm_laws_protocol.specs.Holding.{AreWithin};
+ghost use Rattle.dsm_laws_history.specs.NewerLines.{HasNewerLines};
+ghost use Rattle.dsm_laws_history.specs.OneMemory.{IsOneMemory};
+
+use dsm_base::Task;
+
+/// The history of a trace that fits its units is a run over one memory, with which each processor
+/// agrees: its turns are its turns in that run, and its copy has the memory's values where it may load.
+pub fn one_memory<T: Task>()
+    ensures { (setup : Setup) (first : ℕ → T.State) (acts : List Act) (trace : List Group) →
+        AllAskFirst setup first T.kind.semantics →
+        FitsUnits setup first T.kind.semantics acts trace → AreWithin setup acts →
+        IsOneMemory setup first T.kind.semantics trace }
+{}
+
+/// A take brings exactly the lines of its lock that were stored to in the holds that made the versions
+/// between that of the own copy and its own, as the one memory had them right after these holds; and so
+/// do the grant before it, the release that ends a hold, and what a home keeps of each version.
+pub fn newer_lines<T: Task>()
+    ensures { (setup : Setup) (first : ℕ → T.State) (acts : List Act) (trace : List Group) →
+        AllAskFirst setup first T.kind.semantics →
+        (fits : FitsUnits setup first T.kind.semantics acts trace) → AreWithin setup acts →
+        HasNewerLines setup first T.kind.semantics
+        (run_of setup first T.kind.semantics fits.done).net trace }
+{}
