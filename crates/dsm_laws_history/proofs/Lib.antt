@@ -9,3 +9,4 @@ pub mod PlainTurns
 pub mod Told
 pub mod Histories
 pub mod Agreement
+pub mod Printing

@@ -1,2 +1,3 @@
 pub mod NewerLines
 pub mod OneMemory
+pub mod Output

@@ -2,15 +2,18 @@
 //! one memory, and which lines they bring is told by that run.
 #![tactic(auto)]
 
-ghost use Rattle.std.specs.Prelude.{ℕ, List};
+ghost use Rattle.std.specs.Prelude.{◌≡◌, ℕ, List};
 ghost use Rattle.dsm_base.specs.declared.act.Act.{Act};
 ghost use Rattle.dsm_base.specs.declared.setup.Setup.{Setup};
+ghost use Rattle.dsm_base.specs.Output.{printed_lines};
 ghost use Rattle.dsm_net.specs.declared.trace.Group.{Group};
 ghost use Rattle.dsm_net.specs.Fits.{FitsUnits, run_of};
+ghost use Rattle.dsm_net.specs.Story.{history};
 ghost use Rattle.dsm_laws_runs.specs.Versions.{AllAskFirst};
 ghost use Rattle.dsm_laws_protocol.specs.Holding.{AreWithin};
 ghost use Rattle.dsm_laws_history.specs.NewerLines.{HasNewerLines};
 ghost use Rattle.dsm_laws_history.specs.OneMemory.{IsOneMemory};
+ghost use Rattle.dsm_laws_history.specs.Output.{output_of};
 
 use dsm_base::Task;
 
@@ -21,6 +24,13 @@ pub fn one_memory<T: Task>()
         AllAskFirst setup first T.kind.semantics →
         FitsUnits setup first T.kind.semantics acts trace → AreWithin setup acts →
         IsOneMemory setup first T.kind.semantics trace }
+{}
+
+/// The lines that go out in a trace that fits its units are those that its history prints, in that order.
+pub fn output<T: Task>()
+    ensures { (setup : Setup) (first : ℕ → T.State) (acts : List Act) (trace : List Group) →
+        FitsUnits setup first T.kind.semantics acts trace →
+        output_of trace ≡ printed_lines (history trace) }
 {}
 
 /// A take brings exactly the lines of its lock that were stored to in the holds that made the versions

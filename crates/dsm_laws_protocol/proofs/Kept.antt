@@ -4,13 +4,15 @@ use Rattle.std.proofs.Common.{refl, ◌∙◌}
 use Rattle.dsm_base.specs.declared.lists.PendingLine.{PendingLine}
 use Rattle.dsm_msg.specs.declared.message.Msg.{Msg}
 use Rattle.dsm_net.specs.declared.trace.Rec.{Rec}
+use Rattle.dsm_net.specs.declared.trace.Group.{Group}
 use Rattle.dsm_net.specs.Processor.{Processor}
 use Rattle.dsm_net.specs.Turns.{OwnTurn}
 use Rattle.dsm_net.specs.Messages.{processor_named}
 use Rattle.dsm_net.specs.Effects.{Effect}
 use Rattle.dsm_net.specs.Units.{Made, then_made, with_message_to, with_message, with_messages, with_line_out, with_lines_out, with_processor, with_note, with_replay, with_effect}
 use Rattle.dsm_net.specs.Story.{own_turns_onto}
-use Rattle.dsm_laws_protocol.specs.Steps.{Step, steps_onto}
+use Rattle.dsm_net.specs.Fits.{with_unit}
+use Rattle.dsm_laws_protocol.specs.Steps.{Step, steps_onto, steps_of}
 
 -- records one after the other
 pub turns_append : (p : ℕ) (before : List OwnTurn) (xs ys : List Rec) → own_turns_onto p before (xs ++ ys) ≡ own_turns_onto p (own_turns_onto p before xs) ys
@@ -22,6 +24,10 @@ pub steps_append : (before : List Step) (xs ys : List Rec) → steps_onto before
 steps_append before [] ys = refl
 steps_append before (Rec.Turn q turn label lines ∷ xs) ys = steps_append (record { proc = q.0; turn = record { label = label; lines = lines } } ∷ before) xs ys
 steps_append before (one ∷ xs) ys = steps_append before xs ys
+
+pub steps_of_unit : (unit : ℕ) (records : List Rec) (before : List Group) → steps_of (with_unit unit records before) ≡ steps_onto (steps_of before) records
+steps_of_unit unit [] before = refl
+steps_of_unit unit (one ∷ records) before = refl
 
 -- nothing of turns or processors has changed
 pub record IsKept {S : Type 0} (made now : Made S) : Type 0 where

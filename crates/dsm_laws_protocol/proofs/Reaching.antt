@@ -31,7 +31,7 @@ use Rattle.dsm_laws_protocol.proofs.Holders.{both_shared}
 use Rattle.dsm_laws_protocol.proofs.Rights.{holder}
 use Rattle.dsm_laws_protocol.proofs.Turns.{start_rights}
 use Rattle.dsm_laws_protocol.proofs.Channels.{goes, IsAfter, IsPlain, effect_after}
-use Rattle.dsm_laws_protocol.proofs.Kept.{effect_kept}
+use Rattle.dsm_laws_protocol.proofs.Kept.{steps_of_unit, effect_kept}
 use Rattle.dsm_laws_protocol.proofs.Own.{IsOwnTurn, own_turn_is}
 use Rattle.dsm_laws_protocol.proofs.Reached.{AreSent, IsReached, after_turn, after_delivery}
 use Rattle.dsm_laws_protocol.proofs.Deliveries.{delivered_reached}
@@ -40,7 +40,7 @@ use Rattle.dsm_laws_protocol.proofs.Telling.{made_reached}
 
 -- No effect ends a replay or sends a Note.
 
-body_plain : {S : Type 0} (setup : Setup) (me : ℕ) (s : Processor S) (from turn : ℕ) (body : Body) → IsPlain (effect_of_body setup me s from turn body)
+pub body_plain : {S : Type 0} (setup : Setup) (me : ℕ) (s : Processor S) (from turn : ℕ) (body : Body) → IsPlain (effect_of_body setup me s from turn body)
 body_plain setup me s from turn body = go (counts s from turn body) refl
   where
     counted : (body : Body) → IsPlain (effect_of setup me s from turn body)
@@ -52,7 +52,7 @@ body_plain setup me s from turn body = go (counts s from turn body) refl
     go true e = rw e (counted body)
     go false e = rw e record { no_replay = refl; no_note = refl }
 
-telling_plain : {S : Type 0} (setup : Setup) (p : ℕ) (s : Processor S) (body : Option Body) → IsPlain (effect_of_telling setup p s body)
+pub telling_plain : {S : Type 0} (setup : Setup) (p : ℕ) (s : Processor S) (body : Option Body) → IsPlain (effect_of_telling setup p s body)
 telling_plain setup p s None = record { no_replay = refl; no_note = refl }
 telling_plain setup p s (Some body) = to_keeper (keeper_of setup body)
   where
@@ -186,10 +186,6 @@ module _ {S : Type 0} (setup : Setup) (first : ℕ → S) (threads : Semantics S
           subst (λ o. Holds (delivery_of setup net p.0 q.0 (net.channels p.0 q.0) o).net (steps_onto steps (delivery_of setup net p.0 q.0 (net.channels p.0 q.0) o).records)) (sym (h.is_net.up q.0))
           (message_holds p.0 q.0 (turned_false p.0 q.0 (apart_false p.0 q.0 within.2)) (net.channels p.0 q.0) (h.is_net.under_way p.0 q.0))
       unit_holds _ outcome within = h
-
-    steps_of_unit : (unit : ℕ) (records : List Rec) (before : List Group) → steps_of (with_unit unit records before) ≡ steps_onto (steps_of before) records
-    steps_of_unit unit [] before = refl
-    steps_of_unit unit (one ∷ records) before = refl
 
     pub run_holds : (past : List Done) → AreWithin setup (acts_of past) → Holds (run_of setup first threads past).net (steps_of (run_of setup first threads past).groups)
     run_holds [] within = start_holds
