@@ -10,3 +10,6 @@ pub mod Told
 pub mod Histories
 pub mod Agreement
 pub mod Printing
+pub mod Handled
+mod Example
+pub mod Grants

@@ -56,7 +56,7 @@ use Rattle.dsm_laws_history.proofs.Effects.{both_are, same_numbers}
 use Rattle.dsm_laws_history.proofs.Reached.{HasCopy, HasHistory}
 
 -- what is found passes the test, and has what all have
-found_has : {X : Type 0} (P : X → Type 0) (test : X → Bool) (xs : List X) (x : X) → AllByRecursion P xs → find test xs ≡ Some x → P x × (test x ≡ true)
+pub found_has : {X : Type 0} (P : X → Type 0) (test : X → Bool) (xs : List X) (x : X) → AllByRecursion P xs → find test xs ≡ Some x → P x × (test x ≡ true)
 found_has P test [] x all e = cc
 found_has {X} P test (y ∷ xs) x all e = go (test y) refl (found_has P test xs x all.1)
   where
@@ -70,7 +70,7 @@ pub record IsAnswered {S : Type 0} (s : Processor S) (lock : Lock) (input : Inpu
   pub is_found : find (is_grant_for (s.own.turns + 1) lock.0) s.mail.grants ≡ Some grant
   pub is_input : input ≡ input_of_grant grant
 
-answered_by : {S : Type 0} (s : Processor S) (lock : Lock) (mode : Mode) (want : Want) (input : Input) → want ≡ Want.Take lock mode → input_for s want ≡ Some input → IsAnswered s lock input
+pub answered_by : {S : Type 0} (s : Processor S) (lock : Lock) (mode : Mode) (want : Want) (input : Input) → want ≡ Want.Take lock mode → input_for s want ≡ Some input → IsAnswered s lock input
 answered_by s lock mode want input w e = go (find (is_grant_for (s.own.turns + 1) lock.0) s.mail.grants) refl (rw w at e)
   where
     go : (o : Option MailGrant) → find (is_grant_for (s.own.turns + 1) lock.0) s.mail.grants ≡ o → option_map input_of_grant o ≡ Some input → IsAnswered s lock input

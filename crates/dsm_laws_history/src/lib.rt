@@ -11,6 +11,8 @@ ghost use Rattle.dsm_net.specs.Fits.{FitsUnits, run_of};
 ghost use Rattle.dsm_net.specs.Story.{history};
 ghost use Rattle.dsm_laws_runs.specs.Versions.{AllAskFirst};
 ghost use Rattle.dsm_laws_protocol.specs.Holding.{AreWithin};
+ghost use Rattle.dsm_laws_history.specs.Desks.{AllHaveHandled};
+ghost use Rattle.dsm_laws_history.specs.Granted.{AllTakesAreGranted};
 ghost use Rattle.dsm_laws_history.specs.NewerLines.{HasNewerLines};
 ghost use Rattle.dsm_laws_history.specs.OneMemory.{IsOneMemory};
 ghost use Rattle.dsm_laws_history.specs.Output.{output_of};
@@ -31,6 +33,24 @@ pub fn output<T: Task>()
     ensures { (setup : Setup) (first : ℕ → T.State) (acts : List Act) (trace : List Group) →
         FitsUnits setup first T.kind.semantics acts trace →
         output_of trace ≡ printed_lines (history trace) }
+{}
+
+/// Each take has the version and the lines of a grant for that turn and lock which was delivered to its
+/// processor before, unless the processor is the home of the lock itself.
+pub fn takes_are_granted<T: Task>()
+    ensures { (setup : Setup) (first : ℕ → T.State) (acts : List Act) (trace : List Group) →
+        FitsUnits setup first T.kind.semantics acts trace → AllTakesAreGranted setup trace }
+{}
+
+/// What a home knows of its locks is what each processor has done up to a turn of it: who has asked for
+/// a lock and not given it back holds it or waits, once, and the version counts the exclusive holds that
+/// were given back.
+pub fn desks<T: Task>()
+    ensures { (setup : Setup) (first : ℕ → T.State) (acts : List Act) (trace : List Group) →
+        AllAskFirst setup first T.kind.semantics →
+        (fits : FitsUnits setup first T.kind.semantics acts trace) → AreWithin setup acts →
+        AllHaveHandled setup (history trace)
+        (run_of setup first T.kind.semantics fits.done).net }
 {}
 
 /// A take brings exactly the lines of its lock that were stored to in the holds that made the versions
