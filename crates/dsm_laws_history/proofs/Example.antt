@@ -9,8 +9,7 @@ use Rattle.dsm_base.specs.declared.setup.Setup.{Setup}
 use Rattle.dsm_base.specs.Threads.{Semantics}
 use Rattle.dsm_base.specs.Plain.{Turn}
 use Rattle.dsm_lines.specs.declared.list.Line.{Line}
-use Rattle.dsm_msg.specs.declared.message.Body.{Body}
-use Rattle.dsm_laws_history.specs.NewerLines.{lines_between, Brings, IsTrue}
+use Rattle.dsm_laws_history.specs.NewerLines.{lines_between, Brings}
 
 abbrev lock : Lock
 lock = record { 0 = 0 }

@@ -1,14 +1,13 @@
 -- Each take is answered by a grant that was delivered, or by the processor's own desk.
-use Rattle.std.specs.Prelude.{◌≡◌, ◌⊎◌, ℕ, ◌+◌, Bool, true, false, ◌&&◌, ◌==◌, not, List, [], ◌∷◌, ◌++◌, length, map, filter, find, nat_lt, Option, Some, None, option_map}
+use Rattle.std.specs.Prelude.{◌≡◌, ◌⊎◌, ℕ, ◌+◌, Bool, true, false, ◌==◌, not, List, [], ◌∷◌, ◌++◌, length, map, filter, nat_lt, Option, Some, None}
 use Rattle.std.specs.List.{AllByRecursion}
-use Rattle.std.proofs.Common.{arith, refl, sym, ap, ◌∙◌, subst, inl, inr, ⊎_elim}
+use Rattle.std.proofs.Common.{refl, sym, ap, ◌∙◌, subst, inl, inr}
 use Rattle.std.proofs.lemmas.Bool.Decides.{eqb_tells}
 use Rattle.dsm_base.specs.declared.act.Act.{Act}
 use Rattle.dsm_base.specs.declared.lists.PendingLine.{PendingLine}
 use Rattle.dsm_base.specs.declared.names.Lock.{Lock}
 use Rattle.dsm_base.specs.declared.names.Mode.{Mode}
 use Rattle.dsm_base.specs.declared.label.Label.{Label}
-use Rattle.dsm_base.specs.declared.label.Want.{Want}
 use Rattle.dsm_base.specs.declared.setup.Setup.{Setup}
 use Rattle.dsm_base.specs.Family.{update, update_at}
 use Rattle.dsm_base.specs.Threads.{Semantics}
@@ -24,13 +23,13 @@ use Rattle.dsm_net.specs.declared.trace.Group.{Group}
 use Rattle.dsm_net.specs.Processor.{Own, Processor, start_processor}
 use Rattle.dsm_net.specs.Inputs.{Input, is_grant_for}
 use Rattle.dsm_net.specs.Turns.{OwnTurn, own_view, own_turn}
-use Rattle.dsm_net.specs.Messages.{home_of, keeper_of, with_carry}
-use Rattle.dsm_net.specs.Grants.{own_grant, grant_message, is_of, home_after_grants, grant_messages}
+use Rattle.dsm_net.specs.Messages.{home_of, with_carry}
+use Rattle.dsm_net.specs.Grants.{own_grant, grant_message, is_of}
 use Rattle.dsm_net.specs.Effects.{Effect, counts, with_request, with_release, effect_of, effect_of_body, effect_of_message, release_of, body_of, processor_after, effect_of_telling_to, effect_of_telling, effect_of_turn}
-use Rattle.dsm_net.specs.Net.{Net, start_net}
+use Rattle.dsm_net.specs.Net.{Net}
 use Rattle.dsm_net.specs.Units.{Outcome, Made, with_letter, with_message, with_message_to, with_messages, with_lines_out, with_line_out, with_processor, with_effect, step_with, step_of, delivery_of, unit_of}
 use Rattle.dsm_net.specs.Fits.{Done, FitsUnits, with_unit, run_of}
-use Rattle.dsm_laws_protocol.proofs.Channels.{IsPlain, lines_out_channels}
+use Rattle.dsm_laws_protocol.proofs.Channels.{IsPlain}
 use Rattle.dsm_laws_protocol.proofs.Kept.{effect_kept}
 use Rattle.dsm_laws_protocol.proofs.Threads.{is_other, Answer, ByTake, ByAsk, ByGive, ByOther, answered}
 use Rattle.dsm_laws_protocol.proofs.Own.{IsOwnTurn, own_turn_is}

@@ -1,9 +1,8 @@
 -- What a home knows of its locks is what the processors have done up to the turns that it has handled.
-use Rattle.std.specs.Prelude.{◌≡◌, ℕ, ◌+◌, ◌≤◌, ◌==◌, Bool, true, false, if◌then◌else◌, List, [], ◌∷◌, length, Option, Some, None}
+use Rattle.std.specs.Prelude.{◌≡◌, ℕ, ◌≤◌, ◌==◌, Bool, true, false, List, [], ◌∷◌, length, Some}
 use Rattle.std.specs.List.{AllByRecursion}
 use Rattle.std.proofs.Common.{arith, refl, sym, ap, ◌∙◌, subst, inl, inr}
 use Rattle.std.proofs.lemmas.Bool.Decides.{eqb_tells}
-use Rattle.dsm_base.specs.declared.names.Mode.{Mode}
 use Rattle.dsm_base.specs.declared.act.Act.{Act}
 use Rattle.dsm_base.specs.declared.setup.Setup.{Setup}
 use Rattle.dsm_base.specs.Threads.{Semantics}
@@ -16,8 +15,8 @@ use Rattle.dsm_net.specs.Net.{Net}
 use Rattle.dsm_net.specs.Fits.{FitsUnits, run_of}
 use Rattle.dsm_net.specs.Story.{history}
 use Rattle.dsm_laws_runs.specs.Versions.{AllAskFirst}
-use Rattle.dsm_laws_protocol.specs.Courses.{upto, move_of, moves_of, Claim, claim_of, made_by}
-use Rattle.dsm_laws_protocol.specs.Situations.{is_apart, is_waiting, is_granted, has_taken, Stands, Situation, IsLawful, modes_of, waits_of, waiting_for, total}
+use Rattle.dsm_laws_protocol.specs.Courses.{upto, moves_of, claim_of, made_by}
+use Rattle.dsm_laws_protocol.specs.Situations.{is_apart, is_waiting, is_granted, has_taken, Stands, Situation, IsLawful, modes_of, waits_of, waiting_for}
 use Rattle.dsm_laws_protocol.specs.Holding.{AreWithin}
 use Rattle.dsm_laws_protocol.specs.Steps.{steps_of, turns_of}
 use Rattle.dsm_laws_protocol.specs.Worlds.{World, situation_at}
@@ -25,7 +24,7 @@ use Rattle.dsm_laws_protocol.proofs.Families.{total_same}
 use Rattle.dsm_laws_protocol.proofs.Flows.{order_within}
 use Rattle.dsm_laws_protocol.proofs.Reaching.{Holds}
 use Rattle.dsm_laws_history.specs.NewerLines.{IsVersion}
-use Rattle.dsm_laws_history.specs.Desks.{IsAsClaimed, done_to, IsKnown, HasHandled, AllHaveHandled}
+use Rattle.dsm_laws_history.specs.Desks.{IsAsClaimed, IsKnown, HasHandled, AllHaveHandled}
 use Rattle.dsm_laws_history.proofs.Reached.{HasHistory}
 use Rattle.dsm_laws_history.proofs.Histories.{history_holds}
 use Rattle.dsm_laws_history.proofs.Agreement.{steps_are}

@@ -20,7 +20,7 @@ use Rattle.dsm_net.specs.declared.trace.Group.{Group}
 use Rattle.dsm_net.specs.Processor.{Own, Processor, start_processor}
 use Rattle.dsm_net.specs.Turns.{OwnTurn, own_turn}
 use Rattle.dsm_net.specs.Messages.{keeper_of, with_carry}
-use Rattle.dsm_net.specs.Grants.{grant_message, is_of, grant_messages}
+use Rattle.dsm_net.specs.Grants.{grant_message, is_of}
 use Rattle.dsm_net.specs.Effects.{Effect, counts, with_request, with_release, effect_of, effect_of_body, effect_of_message, body_of, processor_after, printed_by, effect_of_telling_to, effect_of_telling, effect_of_turn}
 use Rattle.dsm_net.specs.Net.{Net, start_net}
 use Rattle.dsm_net.specs.Units.{Outcome, Made, with_letter, with_message, with_message_to, with_messages, with_lines_out, with_processor, with_effect, step_with, step_of, delivery_of, unit_of}

@@ -17,7 +17,13 @@ ghost use Rattle.dsm_laws_history.specs.NewerLines.{HasNewerLines};
 ghost use Rattle.dsm_laws_history.specs.OneMemory.{IsOneMemory};
 ghost use Rattle.dsm_laws_history.specs.Output.{output_of};
 
-use dsm_base::Task;
+use dsm_base::{Task, TaskMaker};
+
+/// The threads of a maker ask for a lock before they take it, which most laws here have as a premise.
+pub fn made_threads<M: TaskMaker>()
+    ensures { (maker : M) (setup : Setup) →
+        AllAskFirst setup (M.first maker setup.procs) M.Made.kind.semantics }
+{}
 
 /// The history of a trace that fits its units is a run over one memory, with which each processor
 /// agrees: its turns are its turns in that run, and its copy has the memory's values where it may load.

@@ -20,7 +20,7 @@ use Rattle.dsm_net.specs.Messages.{keeper_of, with_carry}
 use Rattle.dsm_net.specs.Effects.{Effect, counts, effect_of, effect_of_body, body_of, processor_after, effect_of_telling_to, effect_of_telling, effect_of_turn}
 use Rattle.dsm_net.specs.Net.{Net, start_net}
 use Rattle.dsm_net.specs.Units.{Outcome, Made, with_effect, step_with, step_of, delivery_of, unit_of}
-use Rattle.dsm_net.specs.Fits.{Done, FitsUnits, IsWithin, acts_of, with_unit, run_of}
+use Rattle.dsm_net.specs.Fits.{Done, FitsUnits, IsWithin, acts_of, run_of}
 use Rattle.dsm_laws_protocol.specs.Holding.{AreWithin, HoldTogether}
 use Rattle.dsm_laws_protocol.specs.Courses.{moves_of}
 use Rattle.dsm_laws_protocol.specs.Steps.{Step, steps_onto, steps_of}
