@@ -87,7 +87,7 @@ module _ {S : Type 0} (setup : Setup) (w : World S) (p to : ℕ) (msg : Msg) (ot
 -- A turn is made.
 
 -- the grant by which a lock can be taken is found among all grants of the lock that there are
-found_for : (turn lock : ℕ) (grant : MailGrant) (mail others : List MailGrant) → find (is_grant_for turn lock) mail ≡ Some grant → find (λ (one : MailGrant). one.turn == turn) (mail_for lock mail ++ others) ≡ Some grant
+pub found_for : (turn lock : ℕ) (grant : MailGrant) (mail others : List MailGrant) → find (is_grant_for turn lock) mail ≡ Some grant → find (λ (one : MailGrant). one.turn == turn) (mail_for lock mail ++ others) ≡ Some grant
 found_for turn lock grant [] others e = cc
 found_for turn lock grant (one ∷ mail) others e = go (found_for turn lock grant mail others) (one.turn == turn) refl (one.lock.0 == lock) refl
   where

@@ -4,12 +4,15 @@ use Rattle.std.proofs.Common.{refl, ◌∙◌}
 use Rattle.dsm_base.specs.declared.lists.PendingLine.{PendingLine}
 use Rattle.dsm_msg.specs.declared.message.Msg.{Msg}
 use Rattle.dsm_net.specs.declared.trace.Rec.{Rec}
+use Rattle.dsm_net.specs.declared.trace.Group.{Group}
 use Rattle.dsm_net.specs.Processor.{Processor}
 use Rattle.dsm_net.specs.Turns.{OwnTurn}
 use Rattle.dsm_net.specs.Messages.{processor_named}
 use Rattle.dsm_net.specs.Effects.{Effect}
 use Rattle.dsm_net.specs.Units.{Made, then_made, with_message_to, with_message, with_messages, with_line_out, with_lines_out, with_processor, with_note, with_replay, with_effect}
 use Rattle.dsm_net.specs.Story.{own_turns_onto}
+use Rattle.dsm_net.specs.Fits.{with_unit}
+use Rattle.dsm_laws_protocol.specs.Steps.{Step, steps_onto, steps_of}
 
 -- records one after the other
 pub turns_append : (p : ℕ) (before : List OwnTurn) (xs ys : List Rec) → own_turns_onto p before (xs ++ ys) ≡ own_turns_onto p (own_turns_onto p before xs) ys
@@ -17,28 +20,41 @@ turns_append p before [] ys = refl
 turns_append p before (Rec.Turn q turn label lines ∷ xs) ys = turns_append p (if q.0 == p then record { label = label; lines = lines } ∷ before else before) xs ys
 turns_append p before (one ∷ xs) ys = turns_append p before xs ys
 
+pub steps_append : (before : List Step) (xs ys : List Rec) → steps_onto before (xs ++ ys) ≡ steps_onto (steps_onto before xs) ys
+steps_append before [] ys = refl
+steps_append before (Rec.Turn q turn label lines ∷ xs) ys = steps_append (record { proc = q.0; turn = record { label = label; lines = lines } } ∷ before) xs ys
+steps_append before (one ∷ xs) ys = steps_append before xs ys
+
+pub steps_of_unit : (unit : ℕ) (records : List Rec) (before : List Group) → steps_of (with_unit unit records before) ≡ steps_onto (steps_of before) records
+steps_of_unit unit [] before = refl
+steps_of_unit unit (one ∷ records) before = refl
+
 -- nothing of turns or processors has changed
 pub record IsKept {S : Type 0} (made now : Made S) : Type 0 where
   pub processors : now.net.processors ≡ made.net.processors
   pub turns : (p : ℕ) (before : List OwnTurn) → own_turns_onto p before now.records ≡ own_turns_onto p before made.records
+  pub steps : (before : List Step) → steps_onto before now.records ≡ steps_onto before made.records
 
 kept_same : {S : Type 0} (made : Made S) → IsKept made made
-kept_same made = record { processors = refl; turns = λ p before. refl }
+kept_same made = record { processors = refl; turns = λ p before. refl; steps = λ before. refl }
 
 kept_both : {S : Type 0} (a b c : Made S) → IsKept a b → IsKept b c → IsKept a c
 kept_both a b c h g = record {
   processors = g.processors ∙ h.processors;
   turns = λ p before. g.turns p before ∙ h.turns p before;
+  steps = λ before. g.steps before ∙ h.steps before;
 }
 
 pub message_to_kept : {S : Type 0} (made : Made S) (msg : Msg) (receiver : Option (Processor S)) → IsKept made (with_message_to made msg receiver)
 message_to_kept made msg None = record {
   processors = refl;
   turns = λ p before. turns_append p before made.records (Rec.Sent (made.net.sent + 1) msg ∷ Rec.Dropped (made.net.sent + 1) ∷ []);
+  steps = λ before. steps_append before made.records (Rec.Sent (made.net.sent + 1) msg ∷ Rec.Dropped (made.net.sent + 1) ∷ []);
 }
 message_to_kept made msg (Some receiver) = record {
   processors = refl;
   turns = λ p before. turns_append p before made.records (Rec.Sent (made.net.sent + 1) msg ∷ []);
+  steps = λ before. steps_append before made.records (Rec.Sent (made.net.sent + 1) msg ∷ []);
 }
 
 pub message_kept : {S : Type 0} (made : Made S) (msg : Msg) → IsKept made (with_message made msg)
@@ -56,6 +72,7 @@ line_out_kept p line made = go (nat_lt (made.net.out p) line.turn) refl
     go true e = rw e record {
       processors = refl;
       turns = λ q before. turns_append q before made.records (Rec.Out (processor_named p) line.turn line.text ∷ []);
+      steps = λ before. steps_append before made.records (Rec.Out (processor_named p) line.turn line.text ∷ []);
     }
     go false e = rw e (kept_same made)
 
@@ -78,6 +95,7 @@ replay_kept {S} made p effect = go effect.replayed refl
     go true e = rw e (kept_both made told (with_messages told effect.rebuilt) record {
       processors = refl;
       turns = λ q before. turns_append q before made.records (Rec.Replayed (processor_named p) effect.processor.own.turns ∷ []);
+      steps = λ before. steps_append before made.records (Rec.Replayed (processor_named p) effect.processor.own.turns ∷ []);
     } (messages_kept effect.rebuilt told))
     go false e = rw e (kept_same made)
 

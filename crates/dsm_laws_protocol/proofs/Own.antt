@@ -75,11 +75,16 @@ pub record IsOwnTurn {S : Type 0} (setup : Setup) (threads : Semantics S) (p : �
   pub input : Input
   pub is_input : input_for s (threads.want s.own.thread) ≡ Some input
   pub is_label : label_of setup.bindings p (own_view s.own input.number) (threads.text s.own.thread) (threads.want s.own.thread) ≡ Some turn.label
+  pub is_lines : turn.lines ≡ input.lines
 
 module _ {S : Type 0} (setup : Setup) (threads : Semantics S) (p : ℕ) (s : Processor S) (turn : OwnTurn) where
   label_seen : (input : Input) (label : Option Label) → option_map (λ (l : Label). record { label = l; lines = input.lines }) label ≡ Some turn → label ≡ Some turn.label
   label_seen input None e = cc
   label_seen input (Some label) e = let k : record { label = label; lines = input.lines } ≡ turn = cc in ap (λ (t : OwnTurn). Some t.label) k
+
+  lines_seen : (input : Input) (label : Option Label) → option_map (λ (l : Label). record { label = l; lines = input.lines }) label ≡ Some turn → turn.lines ≡ input.lines
+  lines_seen input None e = cc
+  lines_seen input (Some label) e = let k : record { label = label; lines = input.lines } ≡ turn = cc in ap (λ (t : OwnTurn). t.lines) (sym k)
 
   pub own_turn_is : own_turn setup threads p s ≡ Some turn → IsOwnTurn setup threads p s turn
   own_turn_is e = go (input_for s (threads.want s.own.thread)) refl e
@@ -90,6 +95,7 @@ module _ {S : Type 0} (setup : Setup) (threads : Semantics S) (p : ℕ) (s : Pro
         input = input;
         is_input = i;
         is_label = label_seen input (label_of setup.bindings p (own_view s.own input.number) (threads.text s.own.thread) (threads.want s.own.thread)) k;
+        is_lines = lines_seen input (label_of setup.bindings p (own_view s.own input.number) (threads.text s.own.thread) (threads.want s.own.thread)) k;
       }
 
 -- a grant that answers what a thread wants to take

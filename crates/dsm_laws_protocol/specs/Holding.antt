@@ -1,5 +1,6 @@
 -- Who holds a lock.
-use Rattle.std.specs.Prelude.{◌≡◌, ◌≢◌, ℕ, List, [], ◌∷◌, Some}
+use Rattle.std.specs.Prelude.{◌≡◌, ◌≢◌, ℕ, List, Some}
+use Rattle.std.specs.List.{AllByRecursion}
 use Rattle.dsm_base.specs.declared.names.Mode.{Mode}
 use Rattle.dsm_base.specs.declared.act.Act.{Act}
 use Rattle.dsm_base.specs.declared.setup.Setup.{Setup}
@@ -9,8 +10,7 @@ use Rattle.dsm_net.specs.Fits.{IsWithin}
 
 -- all units name processors of the setup
 abbrev pub AreWithin : Setup → List Act → Type 0
-AreWithin setup [] = Unit {0}
-AreWithin setup (act ∷ acts) = IsWithin setup act × AreWithin setup acts
+AreWithin setup acts = AllByRecursion (IsWithin setup) acts
 
 -- two processors hold one lock only where both hold it shared
 abbrev pub HoldTogether : {S : Type 0} → Net S → Type 0

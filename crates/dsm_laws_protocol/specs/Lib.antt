@@ -4,5 +4,6 @@ pub mod Flows
 pub mod Holding
 pub mod OwnParts
 pub mod Situations
+pub mod Steps
 pub mod Waiting
 pub mod Worlds

@@ -166,7 +166,7 @@ module _ {S : Type 0} (line_at : ℕ → ℕ) (setup : Setup) (first : ℕ → S
 
   -- Stamps: a line is newer than a version where its stamp is over it.
 
-  newer_made : (run : List Turn) (lock from to line : ℕ) → newer run lock from to line ≡ true → from ≤ (after_run first threads run).versions lock
+  pub newer_made : (run : List Turn) (lock from to line : ℕ) → newer run lock from to line ≡ true → from ≤ (after_run first threads run).versions lock
   newer_made [] lock from to line is = absurd (cc is)
   newer_made (turn ∷ before) lock from to line is =
       now_or_before (stores_to line_at setup lock line turn.label) (nat_lt ((after_run first threads before).versions lock) to) (newer before lock from to line) ((after_run first threads before).versions lock)

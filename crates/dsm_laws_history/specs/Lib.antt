@@ -1,0 +1,5 @@
+pub mod NewerLines
+pub mod OneMemory
+pub mod Output
+pub mod Desks
+pub mod Granted
