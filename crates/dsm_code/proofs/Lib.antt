@@ -1,0 +1,10 @@
+pub mod Facts
+pub mod Lengths
+pub mod Lands
+pub mod Falls
+pub mod Keeping
+pub mod AskingFirst
+pub mod Asking
+pub mod Within
+pub mod Finishing
+pub mod Counting
