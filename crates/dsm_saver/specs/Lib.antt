@@ -1,0 +1,4 @@
+pub mod Blocks
+pub mod States
+pub mod Answers
+pub mod Loading
