@@ -1,0 +1,4 @@
+pub mod Joined
+pub mod BarrierStates
+pub mod Barriers
+pub mod Managers
