@@ -1,5 +1,5 @@
-//! Laws of epochs: what a processor's labels tell of its arrivals, which lines an epoch leaves, and what
-//! a copy is worth that lines alone bring up to date, at locks and at barriers.
+//! Laws of epochs: what a processor's labels tell of its arrivals, which lines an epoch leaves, and
+//! what a copy is worth that lines alone bring up to date, at locks and at barriers.
 #![tactic(auto)]
 
 ghost use Rattle.std.specs.Prelude.{◌≡◌, ℕ, ℤ, ◌+◌, ◌<◌, ◌≤◌, Some, List, ◌++◌, true, if◌then◌else◌};
@@ -18,8 +18,8 @@ ghost use Rattle.dsm_laws_epochs.specs.ByLines.{turns_by_lines, copy_by_lines};
 
 use dsm_base::Task;
 
-/// A processor has come to a barrier once more than it has crossed it exactly where its newest turn is
-/// its arrival there, and else as often.
+/// A processor has come to a barrier once more than it has crossed it exactly where its newest turn
+/// is its arrival there, and else as often.
 pub fn arrivals_by_labels<T: Task>()
     ensures { (setup : Setup) (first : ℕ → T.State) (run : List Turn) →
         AllAskFirst setup first T.kind.semantics → IsPlainRun setup first T.kind.semantics run →
@@ -28,11 +28,12 @@ pub fn arrivals_by_labels<T: Task>()
         then s.crossed p bar + 1 else s.crossed p bar) }
 {}
 
-/// Once a processor has come to a barrier at the end of an epoch, it is settled, however the run goes
-/// on, to which lines it stored in that epoch (`lines`) and what they hold in the next (`values`).
+/// Once a processor has come to a barrier at the end of an epoch, it is settled, however the run
+/// goes on, to which lines it stored in that epoch (`lines`) and what they hold in the next
+/// (`values`).
 pub fn lines_of_epochs<T: Task>()
-    ensures lines { (line_at : ℕ → ℕ) (setup : Setup) (first : ℕ → T.State) (newer before : List Turn) →
-        AllAskFirst setup first T.kind.semantics →
+    ensures lines { (line_at : ℕ → ℕ) (setup : Setup) (first : ℕ → T.State)
+        (newer before : List Turn) → AllAskFirst setup first T.kind.semantics →
         IsPlainRun setup first T.kind.semantics (newer ++ before) →
         (bar owner epoch line : ℕ) →
         epoch < (after_run first T.kind.semantics before).arrived owner bar →
@@ -45,11 +46,11 @@ pub fn lines_of_epochs<T: Task>()
         memory_in setup (λ p. labels_of p before) bar epoch cell }
 {}
 
-/// A processor's copy that its own stores make, together with the newer lines that its takes bring and
-/// the lines of others that its crossings bring, each by the run before it, is as it should be by the
-/// whole run (`adequate`): at each lock and barrier it is worth what it should (`worth`), it agrees with
-/// the run (`agrees`), and where the processor loads next, it has the value that the memory has
-/// (`loads`). Nothing is asked of what pieces are bound to.
+/// A processor's copy that its own stores make, together with the newer lines that its takes bring
+/// and the lines of others that its crossings bring, each by the run before it, is as it should be
+/// by the whole run (`adequate`): at each lock and barrier it is worth what it should (`worth`), it
+/// agrees with the run (`agrees`), and where the processor loads next, it has the value that the
+/// memory has (`loads`). Nothing is asked of what pieces are bound to.
 pub fn agreement_by_lines<T: Task>()
     ensures adequate { (line_at : ℕ → ℕ) (setup : Setup) (first : ℕ → T.State) (run : List Turn) →
         AllAskFirst setup first T.kind.semantics → IsPlainRun setup first T.kind.semantics run →
