@@ -1,0 +1,4 @@
+pub mod Ordered
+pub mod Joining
+pub mod Arriving
+pub mod Comings

@@ -1,0 +1,4 @@
+pub mod Newest
+pub mod EpochLines
+pub mod ByLines
+mod Example
