@@ -10,7 +10,7 @@ fn names_of_a_file(rt: HostRuntime) -> Result<(), Fail> {
     let alloc = rt.alloc();
     const TABLE: &[(&str, &str)] = &[
         (
-            "shared int a, b[2]; int c[3], d; lock_t L[4], M; barrier_t B, C; bind(M, a, 0, 1); \
+            "shared int a, b[4]; int c[3], d; lock_t L[4], M; barrier_t B, C; bind(M, a, 0, 1); \
             bindeach(L, b, 1); bindb(B, a, 0, 1, 1, 2, 3); void f(void) {;} int g(int a) {;;} \
             int h() {} int main(int me, int n) {}",
             "BindOverlap { cell: 0, line: 1 }",
