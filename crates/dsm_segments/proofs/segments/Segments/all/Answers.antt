@@ -1,0 +1,10 @@
+use Rattle.std.proofs.Common.{◌≡◌, ◌∙◌, [], ap, subst, get_or, IfOk}
+use Rattle.dsm_segments.proofs.Owners.{at_keys}
+use Rattle.dsm_segments.proofs.segments.Segments.all.Goals as goal
+
+pub returns : goal.returns
+returns g c =
+    subst (λ l. IfOk c.all.result (λ found. found ≡ l))
+    (at_keys c.self.inside.slab c.self.inside.chains.items c.args.owner c.args.self.now c.keys_of.result.now
+    (c.keys_of.ensures ∙ ap (λ cs. get_or cs c.args.owner []) c.as_slice.ensures.value) c.self.view_is)
+    c.all.ensures

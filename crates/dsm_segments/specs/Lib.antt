@@ -1,0 +1,4 @@
+pub mod Entries
+pub mod Chains
+pub mod Sound
+pub mod Steps
