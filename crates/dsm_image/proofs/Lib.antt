@@ -1,0 +1,6 @@
+pub mod Holds
+pub mod Grammar
+pub mod Fronts
+pub mod Writing
+pub mod Zeros
+pub mod Answering

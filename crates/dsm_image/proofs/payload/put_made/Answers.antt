@@ -1,0 +1,12 @@
+use Rattle.std.proofs.Common.{true}
+use Rattle.std.proofs.lemmas.Result.{on_ok_weaker}
+use Rattle.dsm_fields.proofs.Writing.{fields_first}
+use Rattle.dsm_image.specs.Spelling.{version_fields, arrival_fields}
+use Rattle.dsm_image.proofs.Writing.{of_listed}
+use Rattle.dsm_image.proofs.payload.put_made.Goals as goal
+
+pub returns : goal.returns
+returns c = on_ok_weaker c.put_listed-2.result (λ behind. λ scope.
+    let me = c.args.image.now.me in
+    fields_first (of_listed (λ _. true) (version_fields scope) c.as_slice.ensures (c.in_ok-put_listed.ensures (λ _. true) scope me))
+    (of_listed (λ _. true) (arrival_fields scope) c.as_slice-2.ensures (behind (λ _. true) scope me))) c.put_listed-2.ensures

@@ -1,0 +1,5 @@
+//! Images and their bytes.
+#![tactic(auto)]
+
+#[cfg(test)]
+mod images;
