@@ -13,22 +13,22 @@ use Rattle.dsm_base.specs.Threads.{Semantics}
 use Rattle.dsm_base.specs.Plain.{Turn}
 use Rattle.dsm_lines.specs.declared.list.Line.{Line}
 use Rattle.dsm_lines.specs.declared.of_objects.MailGrant.{MailGrant}
+use Rattle.dsm_lines.specs.Copies.{newer_lines}
 use Rattle.dsm_msg.specs.declared.message.Body.{Body}
 use Rattle.dsm_msg.specs.declared.message.Msg.{Msg}
 use Rattle.dsm_home.specs.declared.waiting.Waiting.{Waiting}
 use Rattle.dsm_home.specs.LockStates.{fits_beside, holder_of, front_of, behind_front, grants_of, lock_after_grants, lock_after_release, version_made, mode_among}
-use Rattle.dsm_net.specs.Lines.{line_at}
 use Rattle.dsm_net.specs.Processor.{HomeLines, Processor}
 use Rattle.dsm_net.specs.Messages.{keeper_of}
-use Rattle.dsm_net.specs.Grants.{newer_lines, own_grant, grant_message, is_of, home_after_grants, grant_messages}
+use Rattle.dsm_net.specs.Grants.{own_grant, grant_message, is_of, home_after_grants, grant_messages}
 use Rattle.dsm_net.specs.Effects.{Effect, only, may_bring, is_mode, may_give, counts, waiting_of, with_version, with_request, with_release, effect_of, effect_of_body, effect_of_telling_to, effect_of_telling}
 use Rattle.dsm_laws_runs.specs.Pieces.{is_of_lock}
 use Rattle.dsm_laws_runs.specs.Versions.{IsCellOf, memory_at}
 use Rattle.dsm_laws_runs.specs.Newer.{is_newer}
 use Rattle.dsm_laws_runs.proofs.OwnTurns.{other_lock}
 use Rattle.dsm_laws_runs.proofs.Newer.{unchanged, newer_by_stamp}
-use Rattle.dsm_laws_history.specs.NewerLines.{lines_between, version_before, IsVersion, AreNewer, IsTrue, AreOfVersion}
-use Rattle.dsm_laws_history.proofs.Lines.{lock_bound, lines_same, overlaid_chosen, values_are, stamps_chosen}
+use Rattle.dsm_laws_history.specs.NewerLines.{line_at, lines_between, version_before, IsVersion, AreNewer, IsTrue, AreOfVersion}
+use Rattle.dsm_laws_history.proofs.Lines.{lock_bound, lines_same, overlaid_chosen, stamps_chosen}
 use Rattle.dsm_laws_history.proofs.Marks.{stamp_made}
 use Rattle.dsm_laws_history.proofs.Truth.{all_append, IsTrueOf, IsTrueMessage}
 
@@ -72,7 +72,7 @@ module _ {S : Type 0} (setup : Setup) (first : ℕ → S) (threads : Semantics S
     home : AreOfVersion setup first threads run lock.0 version s.lines
     home = h.homes lock.0
 
-    newer_true : (one : Waiting) → Waits one → AreNewer setup first threads run one.proc.0 one.turn lock.0 version (newer_lines setup s.lines lock one.«have»)
+    newer_true : (one : Waiting) → Waits one → AreNewer setup first threads run one.proc.0 one.turn lock.0 version (newer_lines setup.bindings s.lines.stamps s.lines.values lock one.«have»)
     newer_true one k = record {
       in_course = k.in_course;
       is_made = home.is_made;
@@ -92,7 +92,7 @@ module _ {S : Type 0} (setup : Setup) (first : ℕ → S) (threads : Semantics S
       where
         go : (b : Bool) → is_of me one ≡ b → AllByRecursion (λ (grant : MailGrant). AreNewer setup first threads run me grant.turn grant.lock.0 grant.version grant.lines) (map (own_grant setup s lock) (filter (is_of me) ones)) →
             AllByRecursion (λ (grant : MailGrant). AreNewer setup first threads run me grant.turn grant.lock.0 grant.version grant.lines) (map (own_grant setup s lock) (filter (is_of me) (one ∷ ones)))
-        go true e more = rw e (subst (λ p. AreNewer setup first threads run p one.turn lock.0 version (newer_lines setup s.lines lock one.«have»)) (same_numbers one.proc.0 me e) (newer_true one all.0), more)
+        go true e more = rw e (subst (λ p. AreNewer setup first threads run p one.turn lock.0 version (newer_lines setup.bindings s.lines.stamps s.lines.values lock one.«have»)) (same_numbers one.proc.0 me e) (newer_true one all.0), more)
         go false e more = rw e more
 
     sent_true : (ones : List Waiting) → AllByRecursion Waits ones → AllTrue (map (grant_message setup me s lock) (filter (λ one. not (is_of me one)) ones))
@@ -161,13 +161,13 @@ module _ {S : Type 0} (setup : Setup) (first : ℕ → S) (threads : Semantics S
       newer = is_newer (line_at setup.bindings) setup first threads run lock.0 version (version + 1)
 
       value_now : (cell : ℕ) → now.values cell ≡ (if is_of_lock lock.0 (piece_of setup.bindings cell) && newer (line_at setup.bindings cell) then memory_at first threads run lock.0 (version + 1) cell else s.lines.values cell)
-      value_now cell = ap (λ f. f cell) (values_are setup (version + 1) brought s.lines) ∙ overlaid_chosen setup lock newer (memory_at first threads run lock.0 (version + 1)) s.lines.values cell
+      value_now cell = overlaid_chosen setup lock newer (memory_at first threads run lock.0 (version + 1)) s.lines.values cell
 
       here : AreOfVersion setup first threads run lock.0 version s.lines → AreOfVersion setup first threads run lock.0 (version + 1) now
       here was = record {
         is_made = made.is_made;
         values = λ cell is. value_now cell ∙ rw is (go cell is (newer (line_at setup.bindings cell)) refl);
-        stamps = λ cell is. stamps_chosen setup lock (version + 1) newer (memory_at first threads run lock.0 (version + 1)) s.lines cell (lock_bound lock.0 (piece_of setup.bindings cell) is)
+        stamps = λ cell is. stamps_chosen setup lock (version + 1) newer (memory_at first threads run lock.0 (version + 1)) s.lines.stamps cell (lock_bound lock.0 (piece_of setup.bindings cell) is)
             ∙ rw is (ap (λ n. if newer (line_at setup.bindings cell) then version + 1 else n) (was.stamps cell is)
             ∙ sym (stamp_made (line_at setup.bindings) setup first threads run lock.0 version (line_at setup.bindings cell)));
       }
@@ -180,7 +180,7 @@ module _ {S : Type 0} (setup : Setup) (first : ℕ → S) (threads : Semantics S
       there other at ne was = record {
         is_made = was.is_made;
         values = λ cell is. value_now cell ∙ rw (not_here cell is) (was.values cell is);
-        stamps = λ cell is. stamps_chosen setup lock (version + 1) newer (memory_at first threads run lock.0 (version + 1)) s.lines cell (lock_bound other (piece_of setup.bindings cell) is) ∙ rw (not_here cell is) (was.stamps cell is);
+        stamps = λ cell is. stamps_chosen setup lock (version + 1) newer (memory_at first threads run lock.0 (version + 1)) s.lines.stamps cell (lock_bound other (piece_of setup.bindings cell) is) ∙ rw (not_here cell is) (was.stamps cell is);
       }
         where
           not_here : (cell : ℕ) → IsCellOf setup other cell → is_of_lock lock.0 (piece_of setup.bindings cell) ≡ false

@@ -1,5 +1,5 @@
 -- Which cells are in which lines: pieces are apart, so each bound cell is in one line, and that is a line of its object.
-use Rattle.std.specs.Prelude.{◌≡◌, ℕ, ℤ, zero, suc, ◌+◌, ◌-◌, ◌*◌, ◌/◌, ◌<◌, Bool, true, false, ◌&&◌, ◌||◌, ◌==◌, if◌then◌else◌, nat_lt, nat_le, min, List, [], ◌∷◌, ◌++◌, map, filter, Option, Some, None, is_some}
+use Rattle.std.specs.Prelude.{◌≡◌, ℕ, ℤ, zero, suc, ◌+◌, ◌-◌, ◌*◌, ◌/◌, ◌<◌, Bool, true, false, ◌&&◌, ◌||◌, ◌==◌, if◌then◌else◌, nat_lt, nat_le, min, List, [], ◌∷◌, ◌++◌, map, filter, Option, Some, None, is_some, option_map, unwrap_or}
 use Rattle.std.specs.List.{list_any, list_all, range_with_len, AllByRecursion}
 use Rattle.std.proofs.Common.{arith, refl, sym, ap, ap₂, ◌∙◌, subst, inl, inr, true≢false}
 use Rattle.std.proofs.lemmas.Bool.Decides.{eqb_tells, leb_tells, nat_tests}
@@ -13,13 +13,15 @@ use Rattle.dsm_base.specs.Family.{update}
 use Rattle.dsm_base.specs.Access.{has_cell, piece_of}
 use Rattle.dsm_base.specs.Setups.{is_apart, are_apart}
 use Rattle.dsm_lines.specs.declared.list.Line.{Line}
+use Rattle.dsm_lines.specs.declared.place.Place.{Place}
+use Rattle.dsm_lines.specs.Copies.{line_with, lines_where, laid, overlaid, stamped, with_mark}
+use Rattle.dsm_lines.specs.Places.{line_count, lines, place_from, place_of, cells_in, same_object, lines_from, lines_of}
 use Rattle.dsm_lines.proofs.Pieces.{both_first, both_second, in_no_other, room_of}
-use Rattle.dsm_net.specs.Lines.{line_count, line_at, cells_of_line, is_same_object, lines_from, lines_of, line_with, lines_where, laid, overlaid}
-use Rattle.dsm_net.specs.Processor.{HomeLines}
-use Rattle.dsm_net.specs.Effects.{with_version}
+use Rattle.dsm_lines.proofs.Tabling.{piece_of_place}
 use Rattle.dsm_laws_runs.specs.Pieces.{is_lock, is_of_lock}
 use Rattle.dsm_laws_runs.specs.Versions.{IsCellOf, SameAt}
 use Rattle.dsm_laws_protocol.proofs.Families.{turned_true, turned_false}
+use Rattle.dsm_laws_history.specs.NewerLines.{line_at}
 
 -- whether a number is in a list
 abbrev pub is_in : ℕ → List ℕ → Bool
@@ -40,6 +42,54 @@ in_filtered test n (m ∷ ns) = go (in_filtered test n ns) (test m) refl
     go more true e = rw (e, more) (grind (arith, same, e))
     go more false e = rw (e, more) (grind (arith, same, e))
 
+-- The line of a cell.
+
+-- lines that begin later are numbered by as many more
+later : (pieces : List Piece) (start from cell rest : ℕ) →
+    unwrap_or (option_map (λ (place : Place). place.line) (place_from (start + from) pieces cell)) (start + rest)
+    ≡ start + unwrap_or (option_map (λ (place : Place). place.line) (place_from from pieces cell)) rest
+later [] start from cell rest = refl
+later (piece ∷ others) start from cell rest = go (later others start (from + line_count piece) cell rest) (has_cell cell piece) refl
+  where
+    here : (start + from) + (cell - piece.first.0) / 8 ≡ start + (from + (cell - piece.first.0) / 8)
+    here = omega arith
+
+    moved : (start + from) + line_count piece ≡ start + (from + line_count piece)
+    moved = omega arith
+
+    go : unwrap_or (option_map (λ (place : Place). place.line) (place_from (start + (from + line_count piece)) others cell)) (start + rest)
+        ≡ start + unwrap_or (option_map (λ (place : Place). place.line) (place_from (from + line_count piece) others cell)) rest → (b : Bool) → has_cell cell piece ≡ b →
+        unwrap_or (option_map (λ (place : Place). place.line) (place_from (start + from) (piece ∷ others) cell)) (start + rest)
+        ≡ start + unwrap_or (option_map (λ (place : Place). place.line) (place_from from (piece ∷ others) cell)) rest
+    go more true has = rw has here
+    go more false has = rw has (ap (λ n. unwrap_or (option_map (λ (place : Place). place.line) (place_from n others cell)) (start + rest)) moved ∙ more)
+
+-- the line of a cell, by the first piece
+abbrev line_by_first : Piece → List Piece → ℕ → ℕ
+line_by_first piece others cell = if has_cell cell piece then (cell - piece.first.0) / 8 else line_count piece + line_at others cell
+
+by_first : (piece : Piece) (others : List Piece) (cell : ℕ) → line_at (piece ∷ others) cell ≡ line_by_first piece others cell
+by_first piece others cell = go (has_cell cell piece) refl
+  where
+    here : 0 + (cell - piece.first.0) / 8 ≡ (cell - piece.first.0) / 8
+    here = omega arith
+
+    start : 0 + line_count piece ≡ line_count piece + 0
+    start = omega arith
+
+    go : (b : Bool) → has_cell cell piece ≡ b → line_at (piece ∷ others) cell ≡ line_by_first piece others cell
+    go true has = rw has here
+    go false has = rw has (ap (λ n. unwrap_or (option_map (λ (place : Place). place.line) (place_from n others cell)) (line_count piece + lines others)) start ∙ later others (line_count piece) 0 cell (lines others))
+
+-- a store to a bound cell marks the cell's line
+pub marked_line : (pieces : List Piece) (marks : ℕ → Bool) (cell : ℕ) → is_some (piece_of pieces cell) ≡ true → with_mark marks (place_of pieces cell) ≡ update marks (line_at pieces cell) true
+marked_line pieces marks cell bound = go (place_of pieces cell) (sym (ap is_some (piece_of_place 0 pieces cell)) ∙ bound)
+  where
+    go : (o : Option Place) → is_some (option_map (λ (place : Place). place.piece) o) ≡ true →
+        with_mark marks o ≡ update marks (unwrap_or (option_map (λ (place : Place). place.line) o) (lines pieces)) true
+    go None some = absurd (true≢false (sym some))
+    go (Some place) some = refl
+
 -- Pieces.
 
 -- the cells of a line of one piece
@@ -50,9 +100,11 @@ line_in_piece : (first count cell : ℕ) → (nat_le first cell && nat_lt cell (
 line_in_piece first count cell has = grind (arith, nat_tests, common_steps)
 
 -- a bound cell is in its own line and in no other; a cell that isn't bound is in none
-pub in_line : (pieces : List Piece) → are_apart pieces ≡ true → (cell line : ℕ) → is_in cell (cells_of_line pieces line) ≡ (is_some (piece_of pieces cell) && (line_at pieces cell == line))
+pub in_line : (pieces : List Piece) → are_apart pieces ≡ true → (cell line : ℕ) → is_in cell (cells_in pieces line) ≡ (is_some (piece_of pieces cell) && (line_at pieces cell == line))
 in_line [] apart cell line = refl
-in_line (piece ∷ others) apart cell line = go (in_line others (both_second (list_all (is_apart piece) others) _ apart) cell) (has_cell cell piece) refl (nat_lt line (line_count piece)) refl
+in_line (piece ∷ others) apart cell line =
+    go (in_line others (both_second (list_all (is_apart piece) others) _ apart) cell) (has_cell cell piece) refl (nat_lt line (line_count piece)) refl
+    ∙ ap (λ n. is_some (piece_of (piece ∷ others) cell) && (n == line)) (sym (by_first piece others cell))
   where
     here : nat_lt line (line_count piece) ≡ true → is_in cell (range_with_len (piece.first.0 + 8 * line) (min 8 (piece.count - 8 * line))) ≡ (has_cell cell piece && ((cell - piece.first.0) / 8 == line))
     here less = in_piece piece.first.0 piece.count cell line (elim (leb_tells (suc line) (line_count piece)) [ inl (_, le) ↦ omega arith | inr (e, _) ↦ absurd (true≢false (sym less ∙ e)) ])
@@ -66,8 +118,8 @@ in_line (piece ∷ others) apart cell line = go (in_line others (both_second (li
     moved : (b : Bool) (n line count : ℕ) → nat_lt line count ≡ false → (b && (n == line - count)) ≡ (b && (count + n == line))
     moved b n line count e = grind (arith, nat_tests, common_steps)
 
-    go : ((line : ℕ) → is_in cell (cells_of_line others line) ≡ (is_some (piece_of others cell) && (line_at others cell == line))) → (b : Bool) → has_cell cell piece ≡ b → (c : Bool) → nat_lt line (line_count piece) ≡ c →
-        is_in cell (cells_of_line (piece ∷ others) line) ≡ (is_some (piece_of (piece ∷ others) cell) && (line_at (piece ∷ others) cell == line))
+    go : ((line : ℕ) → is_in cell (cells_in others line) ≡ (is_some (piece_of others cell) && (line_at others cell == line))) → (b : Bool) → has_cell cell piece ≡ b → (c : Bool) → nat_lt line (line_count piece) ≡ c →
+        is_in cell (cells_in (piece ∷ others) line) ≡ (is_some (piece_of (piece ∷ others) cell) && (line_by_first piece others cell == line))
     go more true has true less = rw (has, less) (here less ∙ rw has refl)
     go more true has false over =
         let none : piece_of others cell ≡ None = in_no_other piece others cell (both_first _ (are_apart others) apart) has in
@@ -79,18 +131,20 @@ in_line (piece ∷ others) apart cell line = go (in_line others (both_second (li
 
 before_start : (pieces : List Piece) (object : Object) (start line : ℕ) → line < start → is_in line (lines_from start pieces object) ≡ false
 before_start [] object start line lt = refl
-before_start (piece ∷ others) object start line lt = go (before_start others object (start + line_count piece) line (omega arith)) (is_same_object piece.object object) refl
+before_start (piece ∷ others) object start line lt = go (before_start others object (start + line_count piece) line (omega arith)) (same_object piece.object object) refl
   where
     none : is_in line (range_with_len start (line_count piece)) ≡ false
     none = in_range line start (line_count piece) ∙ grind (arith, nat_tests, common_steps)
 
-    go : is_in line (lines_from (start + line_count piece) others object) ≡ false → (b : Bool) → is_same_object piece.object object ≡ b → is_in line (lines_from start (piece ∷ others) object) ≡ false
+    go : is_in line (lines_from (start + line_count piece) others object) ≡ false → (b : Bool) → same_object piece.object object ≡ b → is_in line (lines_from start (piece ∷ others) object) ≡ false
     go more true e = rw (e, list_any-append (λ m. m == line) (range_with_len start (line_count piece)) (lines_from (start + line_count piece) others object), none, more) refl
     go more false e = rw e more
 
-line_of_from : (pieces : List Piece) → (object : Object) (start cell : ℕ) (piece : Piece) → piece_of pieces cell ≡ Some piece → is_in (start + line_at pieces cell) (lines_from start pieces object) ≡ is_same_object piece.object object
+line_of_from : (pieces : List Piece) → (object : Object) (start cell : ℕ) (piece : Piece) → piece_of pieces cell ≡ Some piece → is_in (start + line_at pieces cell) (lines_from start pieces object) ≡ same_object piece.object object
 line_of_from [] object start cell piece is = cc
-line_of_from (first ∷ others) object start cell piece is = go (λ e. moved (line_of_from others object (start + line_count first) cell piece e)) (has_cell cell first) refl (is_same_object first.object object) refl
+line_of_from (first ∷ others) object start cell piece is =
+    subst (λ n. is_in (start + n) (lines_from start (first ∷ others) object) ≡ same_object piece.object object) (sym (by_first first others cell))
+    (go (λ e. moved (line_of_from others object (start + line_count first) cell piece e)) (has_cell cell first) refl (same_object first.object object) refl)
   where
     inside : has_cell cell first ≡ true → is_in (start + (cell - first.first.0) / 8) (range_with_len start (line_count first)) ≡ true
     inside has = in_range (start + (cell - first.first.0) / 8) start (line_count first) ∙ (let lt = line_in_piece first.first.0 first.count cell has in grind (arith, nat_tests, common_steps))
@@ -101,31 +155,31 @@ line_of_from (first ∷ others) object start cell piece is = go (λ e. moved (li
     below : has_cell cell first ≡ true → is_in (start + (cell - first.first.0) / 8) (lines_from (start + line_count first) others object) ≡ false
     below has = before_start others object (start + line_count first) (start + (cell - first.first.0) / 8) (let lt = line_in_piece first.first.0 first.count cell has in omega arith)
 
-    moved : is_in ((start + line_count first) + line_at others cell) (lines_from (start + line_count first) others object) ≡ is_same_object piece.object object →
-        is_in (start + (line_count first + line_at others cell)) (lines_from (start + line_count first) others object) ≡ is_same_object piece.object object
-    moved more = let e : (start + line_count first) + line_at others cell ≡ start + (line_count first + line_at others cell) = omega arith in subst (λ n. is_in n (lines_from (start + line_count first) others object) ≡ is_same_object piece.object object) e more
+    moved : is_in ((start + line_count first) + line_at others cell) (lines_from (start + line_count first) others object) ≡ same_object piece.object object →
+        is_in (start + (line_count first + line_at others cell)) (lines_from (start + line_count first) others object) ≡ same_object piece.object object
+    moved more = let e : (start + line_count first) + line_at others cell ≡ start + (line_count first + line_at others cell) = omega arith in subst (λ n. is_in n (lines_from (start + line_count first) others object) ≡ same_object piece.object object) e more
 
-    go : (piece_of others cell ≡ Some piece → is_in (start + (line_count first + line_at others cell)) (lines_from (start + line_count first) others object) ≡ is_same_object piece.object object) →
-        (b : Bool) → has_cell cell first ≡ b → (c : Bool) → is_same_object first.object object ≡ c → is_in (start + line_at (first ∷ others) cell) (lines_from start (first ∷ others) object) ≡ is_same_object piece.object object
+    go : (piece_of others cell ≡ Some piece → is_in (start + (line_count first + line_at others cell)) (lines_from (start + line_count first) others object) ≡ same_object piece.object object) →
+        (b : Bool) → has_cell cell first ≡ b → (c : Bool) → same_object first.object object ≡ c → is_in (start + line_by_first first others cell) (lines_from start (first ∷ others) object) ≡ same_object piece.object object
     go more true has true same =
         let k : first ≡ piece = (let s : Some first ≡ Some piece = rw has at is in cc) in
         rw (has, same, list_any-append (λ m. m == start + (cell - first.first.0) / 8) (range_with_len start (line_count first)) (lines_from (start + line_count first) others object), inside has)
-        (sym same ∙ ap (λ (x : Piece). is_same_object x.object object) k)
+        (sym same ∙ ap (λ (x : Piece). same_object x.object object) k)
     go more true has false same =
         let k : first ≡ piece = (let s : Some first ≡ Some piece = rw has at is in cc) in
-        rw (has, same) (below has ∙ sym same ∙ ap (λ (x : Piece). is_same_object x.object object) k)
+        rw (has, same) (below has ∙ sym same ∙ ap (λ (x : Piece). same_object x.object object) k)
     go more false not_in true same =
         rw (not_in, same, list_any-append (λ m. m == start + (line_count first + line_at others cell)) (range_with_len start (line_count first)) (lines_from (start + line_count first) others object), outside (line_at others cell))
         (more (rw not_in at is))
     go more false not_in false same = rw (not_in, same) (more (rw not_in at is))
 
-pub line_of_object : (pieces : List Piece) (object : Object) (cell : ℕ) (piece : Piece) → piece_of pieces cell ≡ Some piece → is_in (line_at pieces cell) (lines_of pieces object) ≡ is_same_object piece.object object
+pub line_of_object : (pieces : List Piece) (object : Object) (cell : ℕ) (piece : Piece) → piece_of pieces cell ≡ Some piece → is_in (line_at pieces cell) (lines_of pieces object) ≡ same_object piece.object object
 line_of_object pieces object cell piece is = let e : 0 + line_at pieces cell ≡ line_at pieces cell = omega arith in
-    subst (λ n. is_in n (lines_of pieces object) ≡ is_same_object piece.object object) e (line_of_from pieces object 0 cell piece is)
+    subst (λ n. is_in n (lines_of pieces object) ≡ same_object piece.object object) e (line_of_from pieces object 0 cell piece is)
 
 -- Lines of a lock.
 
-pub same_lock : (object : Object) (lock : Lock) → is_same_object object (Object.Lock lock) ≡ is_lock lock.0 object
+pub same_lock : (object : Object) (lock : Lock) → same_object object (Object.Lock lock) ≡ is_lock lock.0 object
 same_lock (Object.Lock other) lock = refl
 same_lock (Object.Bar bar) lock = refl
 
@@ -166,7 +220,7 @@ lines_from_all : (P : ℕ → Type 0) (lock : Lock) (pieces : List Piece) → ar
     AllByRecursion P (lines_from start pieces (Object.Lock lock))
 lines_from_all P lock [] apart start each = tt
 lines_from_all P lock (piece ∷ others) apart start each =
-    go (lines_from_all P lock others (both_second (list_all (is_apart piece) others) _ apart) (start + line_count piece) further) (is_same_object piece.object (Object.Lock lock)) refl
+    go (lines_from_all P lock others (both_second (list_all (is_apart piece) others) _ apart) (start + line_count piece) further) (same_object piece.object (Object.Lock lock)) refl
   where
     none_of_none : (o : Option Piece) → o ≡ None → is_of_lock lock.0 o ≡ true → ⊥
     none_of_none o e is = let k : is_of_lock lock.0 None ≡ true = rw e at is in cc
@@ -176,15 +230,15 @@ lines_from_all P lock (piece ∷ others) apart start each =
       where
         at_cell : (b : Bool) → has_cell cell piece ≡ b → P ((start + line_count piece) + line_at others cell)
         at_cell true has = absurd (none_of_none (piece_of others cell) (in_no_other piece others cell (both_first _ (are_apart others) apart) has) is)
-        at_cell false has = subst P (omega arith) (let h : P (start + line_at (piece ∷ others) cell) = each cell (rw has is) in rw has at h)
+        at_cell false has = subst P (omega arith) (let h : P (start + line_by_first piece others cell) = subst (λ n. P (start + n)) (by_first piece others cell) (each cell (rw has is)) in rw has at h)
 
-    here : is_same_object piece.object (Object.Lock lock) ≡ true → (k : ℕ) → k < line_count piece → P (start + k)
+    here : same_object piece.object (Object.Lock lock) ≡ true → (k : ℕ) → k < line_count piece → P (start + k)
     here same k lt =
         let cell = first_of_line piece.first.0 piece.count k lt in
-        let at : P (start + line_at (piece ∷ others) (piece.first.0 + 8 * k)) = each (piece.first.0 + 8 * k) (rw cell.0 (sym (same_lock piece.object lock) ∙ same)) in
+        let at : P (start + line_by_first piece others (piece.first.0 + 8 * k)) = subst (λ n. P (start + n)) (by_first piece others (piece.first.0 + 8 * k)) (each (piece.first.0 + 8 * k) (rw cell.0 (sym (same_lock piece.object lock) ∙ same))) in
         subst (λ n. P (start + n)) cell.1 (rw cell.0 at at)
 
-    go : AllByRecursion P (lines_from (start + line_count piece) others (Object.Lock lock)) → (b : Bool) → is_same_object piece.object (Object.Lock lock) ≡ b → AllByRecursion P (lines_from start (piece ∷ others) (Object.Lock lock))
+    go : AllByRecursion P (lines_from (start + line_count piece) others (Object.Lock lock)) → (b : Bool) → same_object piece.object (Object.Lock lock) ≡ b → AllByRecursion P (lines_from start (piece ∷ others) (Object.Lock lock))
     go more true same = rw same (all_append P (range_with_len start (line_count piece)) (lines_from (start + line_count piece) others (Object.Lock lock)) (all_range P start (line_count piece) (here same)) more)
     go more false same = rw same more
 
@@ -220,9 +274,9 @@ module _ (setup : Setup) where
   apart = (room_of setup).apart
 
   line_same : (lock : Lock) (one other : ℕ → ℤ) → SameAt setup lock.0 one other → (cell : ℕ) → IsCellOf setup lock.0 cell → line_with pieces one (line_at pieces cell) ≡ line_with pieces other (line_at pieces cell)
-  line_same lock one other same cell is = ap (λ values. record { number = line_at pieces cell; values = values }) (map_same one other (cells_of_line pieces (line_at pieces cell)) (λ d at. same d (of_lock d at)))
+  line_same lock one other same cell is = ap (λ values. record { number = line_at pieces cell; values = values }) (map_same one other (cells_in pieces (line_at pieces cell)) (λ d at. same d (of_lock d at)))
     where
-      of_lock : (d : ℕ) → is_in d (cells_of_line pieces (line_at pieces cell)) ≡ true → IsCellOf setup lock.0 d
+      of_lock : (d : ℕ) → is_in d (cells_in pieces (line_at pieces cell)) ≡ true → IsCellOf setup lock.0 d
       of_lock d at =
           let both = both_true (is_some (piece_of pieces d)) (line_at pieces d == line_at pieces cell) (sym (in_line pieces apart d (line_at pieces cell)) ∙ at) in
           same_line pieces lock d cell both.0 (lock_bound lock.0 (piece_of pieces cell) is) (is_number (line_at pieces d) (line_at pieces cell) both.1) ∙ is
@@ -247,13 +301,13 @@ module _ (setup : Setup) where
       ]
 
   overlaid_is : (values : ℕ → ℤ) (lines : List ℕ) (memory : ℕ → ℤ) (cell : ℕ) →
-      overlaid pieces memory (map (line_with pieces values) lines) cell ≡ (if list_any (λ line. is_in cell (cells_of_line pieces line)) lines then values cell else memory cell)
+      overlaid pieces memory (map (line_with pieces values) lines) cell ≡ (if list_any (λ line. is_in cell (cells_in pieces line)) lines then values cell else memory cell)
   overlaid_is values [] memory cell = refl
   overlaid_is values (line ∷ lines) memory cell =
-      overlaid_is values lines (laid memory (cells_of_line pieces line) (map values (cells_of_line pieces line))) cell
-      ∙ (let e = laid_is values (cells_of_line pieces line) memory cell in grind (arith, e))
+      overlaid_is values lines (laid memory (cells_in pieces line) (map values (cells_in pieces line))) cell
+      ∙ (let e = laid_is values (cells_in pieces line) memory cell in grind (arith, e))
 
-  in_lines : (cell : ℕ) (lines : List ℕ) → list_any (λ line. is_in cell (cells_of_line pieces line)) lines ≡ (is_some (piece_of pieces cell) && is_in (line_at pieces cell) lines)
+  in_lines : (cell : ℕ) (lines : List ℕ) → list_any (λ line. is_in cell (cells_in pieces line)) lines ≡ (is_some (piece_of pieces cell) && is_in (line_at pieces cell) lines)
   in_lines cell [] = grind arith
   in_lines cell (line ∷ lines) = rw (in_line pieces apart cell line, in_lines cell lines) (turned (is_some (piece_of pieces cell)) (line_at pieces cell) line (is_in (line_at pieces cell) lines))
     where
@@ -275,33 +329,22 @@ module _ (setup : Setup) where
 
   -- What a release leaves at the home.
 
-  stamps_are : (version : ℕ) (values : ℕ → ℤ) (lines : List ℕ) (home : HomeLines) (line : ℕ) →
-      (with_version pieces home version (map (line_with pieces values) lines)).stamps line ≡ (if is_in line lines then version else home.stamps line)
-  stamps_are version values [] home line = refl
-  stamps_are version values (first ∷ lines) home line =
-      stamps_are version values lines record {
-        stamps = update home.stamps first version;
-        values = overlaid pieces home.values (line_with pieces values first ∷ []);
-      } line ∙ go (is_in line lines)
+  stamps_are : (version : ℕ) (values : ℕ → ℤ) (lines : List ℕ) (stamps : ℕ → ℕ) (line : ℕ) →
+      stamped stamps version (map (line_with pieces values) lines) line ≡ (if is_in line lines then version else stamps line)
+  stamps_are version values [] stamps line = refl
+  stamps_are version values (first ∷ lines) stamps line = stamps_are version values lines (update stamps first version) line ∙ go (is_in line lines)
     where
-      go : (b : Bool) → (if b then version else update home.stamps first version line) ≡ (if (first == line) || b then version else home.stamps line)
+      go : (b : Bool) → (if b then version else update stamps first version line) ≡ (if (first == line) || b then version else stamps line)
       go b = elim (eqb_tells first line) [
         | inl (t, _) ↦ rw (t, turned_true first line t) (grind arith)
         | inr (t, _) ↦ rw (t, turned_false line first t) refl
       ]
 
-  pub values_are : (version : ℕ) (lines : List Line) (home : HomeLines) → (with_version pieces home version lines).values ≡ overlaid pieces home.values lines
-  values_are version [] home = refl
-  values_are version (line ∷ lines) home = values_are version lines record {
-    stamps = update home.stamps line.number version;
-    values = overlaid pieces home.values (line ∷ []);
-  }
-
   -- chosen lines of a lock are stamped, and no other
-  pub stamps_chosen : (lock : Lock) (version : ℕ) (test : ℕ → Bool) (values : ℕ → ℤ) (home : HomeLines) (cell : ℕ) → is_some (piece_of pieces cell) ≡ true →
-      (with_version pieces home version (lines_where pieces test values (Object.Lock lock))).stamps (line_at pieces cell)
-      ≡ (if is_of_lock lock.0 (piece_of pieces cell) && test (line_at pieces cell) then version else home.stamps (line_at pieces cell))
-  stamps_chosen lock version test values home cell bound =
-      stamps_are version values (filter test (lines_of pieces (Object.Lock lock))) home (line_at pieces cell)
-      ∙ ap (λ b. if b then version else home.stamps (line_at pieces cell)) (in_filtered test (line_at pieces cell) (lines_of pieces (Object.Lock lock))
+  pub stamps_chosen : (lock : Lock) (version : ℕ) (test : ℕ → Bool) (values : ℕ → ℤ) (stamps : ℕ → ℕ) (cell : ℕ) → is_some (piece_of pieces cell) ≡ true →
+      stamped stamps version (lines_where pieces test values (Object.Lock lock)) (line_at pieces cell)
+      ≡ (if is_of_lock lock.0 (piece_of pieces cell) && test (line_at pieces cell) then version else stamps (line_at pieces cell))
+  stamps_chosen lock version test values stamps cell bound =
+      stamps_are version values (filter test (lines_of pieces (Object.Lock lock))) stamps (line_at pieces cell)
+      ∙ ap (λ b. if b then version else stamps (line_at pieces cell)) (in_filtered test (line_at pieces cell) (lines_of pieces (Object.Lock lock))
       ∙ ap (λ b. b && test (line_at pieces cell)) (line_of_lock pieces lock cell bound))

@@ -15,7 +15,7 @@ use Rattle.dsm_base.specs.Family.{update}
 use Rattle.dsm_base.specs.Access.{piece_of, is_exclusive}
 use Rattle.dsm_base.specs.Threads.{Semantics}
 use Rattle.dsm_base.specs.Plain.{PlainState, Turn, IsPlainRun, after_run, plain_turn, labels_of}
-use Rattle.dsm_net.specs.Lines.{line_at, lines_of, is_same_object}
+use Rattle.dsm_lines.specs.Places.{lines_of, same_object}
 use Rattle.dsm_net.specs.Turns.{dirty_after}
 use Rattle.dsm_laws_runs.specs.Pieces.{is_lock, is_of_lock}
 use Rattle.dsm_laws_runs.specs.Versions.{AllAskFirst, IsCellOf}
@@ -28,7 +28,8 @@ use Rattle.dsm_laws_runs.proofs.Versions.{version_kept, version_made}
 use Rattle.dsm_laws_runs.proofs.Access.{stores_hold}
 use Rattle.dsm_laws_runs.proofs.OwnTurns.{other_lock}
 use Rattle.dsm_laws_runs.proofs.Newer.{newer_made}
-use Rattle.dsm_laws_history.proofs.Lines.{is_in, line_of_object, same_line, same_lock, lock_bound}
+use Rattle.dsm_laws_history.specs.NewerLines.{line_at}
+use Rattle.dsm_laws_history.proofs.Lines.{is_in, marked_line, line_of_object, same_line, same_lock, lock_bound}
 
 -- the lines that labels have marked
 abbrev pub dirty_of : List Piece → List Label → ℕ → Bool
@@ -38,6 +39,12 @@ dirty_of pieces (label ∷ before) = dirty_after pieces (dirty_of pieces before)
 -- whether a number is over all that were made
 not_made : (b : Bool) (from now : ℕ) → (b ≡ true → from ≤ now) → now < from → b ≡ false
 not_made b from now h lt = grind (arith, h)
+
+same_number : (n m : ℕ) → n ≡ m → (n == m) ≡ true
+same_number n m e = grind arith
+
+taken_away : (b c : Bool) → c ≡ true → (b && not c) ≡ false
+taken_away b c e = grind arith
 
 module _ {S : Type 0} (setup : Setup) (first : ℕ → S) (threads : Semantics S) where
   abbrev newer : List Turn → ℕ → ℕ → ℕ → ℕ → Bool
@@ -109,7 +116,7 @@ module _ {S : Type 0} (setup : Setup) (first : ℕ → S) (threads : Semantics S
     none_of_bar : (bar : Bar) → is_in line (lines_of setup.bindings (Object.Bar bar)) ≡ false
     none_of_bar bar = at (piece_of setup.bindings cell) refl is_cell
       where
-        other : (object : Object) → is_lock lock.0 object ≡ true → is_same_object object (Object.Bar bar) ≡ false
+        other : (object : Object) → is_lock lock.0 object ≡ true → same_object object (Object.Bar bar) ≡ false
         other (Object.Lock l) e = refl
         other (Object.Bar b) e = cc
 
@@ -150,6 +157,9 @@ module _ {S : Type 0} (setup : Setup) (first : ℕ → S) (threads : Semantics S
             go None e = absurd (let k = stores_of setup s r _ _ stored value turn in grind (arith, e))
             go (Some piece) e = refl
 
+        marked_now : dirty_after setup.bindings (dirty_of setup.bindings (labels_of r before)) (Label.Store stored value) line ≡ update (dirty_of setup.bindings (labels_of r before)) (line_at setup.bindings stored.0) true line
+        marked_now = ap (λ marks. marks line) (marked_line setup.bindings (dirty_of setup.bindings (labels_of r before)) stored.0 stored_bound)
+
         version_same : version (onto (Label.Store stored value)) lock.0 ≡ version before lock.0
         version_same = refl
 
@@ -160,7 +170,7 @@ module _ {S : Type 0} (setup : Setup) (first : ℕ → S) (threads : Semantics S
         stores = now_open (is_of_lock lock.0 (piece_of setup.bindings stored.0) && (line_at setup.bindings stored.0 == line)) (version before lock.0) (is_open before lock.0 line)
 
         there : (line_at setup.bindings stored.0 == line) ≡ false → AreMarks (onto (Label.Store stored value)) lock.0 cell
-        there t = still (Label.Store stored value) (stores ∙ rw t (no_more (is_of_lock lock.0 (piece_of setup.bindings stored.0)) (is_open before lock.0 line))) (other_mark (dirty_of setup.bindings (labels_of r before)) (line_at setup.bindings stored.0) line t) (λ p. same_hold s.held p lock.0)
+        there t = still (Label.Store stored value) (stores ∙ rw t (no_more (is_of_lock lock.0 (piece_of setup.bindings stored.0)) (is_open before lock.0 line))) (marked_now ∙ other_mark (dirty_of setup.bindings (labels_of r before)) (line_at setup.bindings stored.0) line t) (λ p. same_hold s.held p lock.0)
           where
             no_more : (b rest : Bool) → ((b && false) || rest) ≡ rest
             no_more b rest = grind arith
@@ -172,7 +182,7 @@ module _ {S : Type 0} (setup : Setup) (first : ℕ → S) (threads : Semantics S
         here t i = record {
           free = λ none. absurd (true≢false (sym holds ∙ sym (same_hold s.held r lock.0) ∙ none r));
           mine = λ p e. for_each (λ p. is_exclusive ((after_run first threads (onto (Label.Store stored value))).held p lock.0) ≡ true → marked (onto (Label.Store stored value)) p ≡ is_open (onto (Label.Store stored value)) lock.0 line) r p
-              (λ e. marks_mine (Label.Store stored value) ∙ own_mark (dirty_of setup.bindings (labels_of r before)) (line_at setup.bindings stored.0) line t ∙ sym opened)
+              (λ e. marks_mine (Label.Store stored value) ∙ marked_now ∙ own_mark (dirty_of setup.bindings (labels_of r before)) (line_at setup.bindings stored.0) line t ∙ sym opened)
               (λ ne e. absurd (alone p ne (sym (same_hold s.held p lock.0) ∙ e))) e;
           others = λ p e. for_each (λ p. is_exclusive ((after_run first threads (onto (Label.Store stored value))).held p lock.0) ≡ false → marked (onto (Label.Store stored value)) p ≡ false) r p
               (λ e. absurd (true≢false (sym holds ∙ sym (same_hold s.held r lock.0) ∙ e)))
@@ -226,11 +236,8 @@ module _ {S : Type 0} (setup : Setup) (first : ℕ → S) (threads : Semantics S
         here : given.0 ≡ lock.0 → AreMarks (onto (Label.Give given)) lock.0 cell
         here e = ⊎_elim exclusive shared (cases_Bool (is_exclusive (s.held r lock.0)))
           where
-            same_number : (n m : ℕ) → n ≡ m → (n == m) ≡ true
-            same_number n m e = grind arith
-
             gone : (b : Bool) → (b && not (is_in line (lines_of setup.bindings (Object.Lock given)))) ≡ false
-            gone b = rw (in_lines_of given, e, is_cell) (grind arith)
+            gone b = taken_away b (is_in line (lines_of setup.bindings (Object.Lock given))) (in_lines_of given ∙ ap (λ l. is_of_lock l (piece_of setup.bindings cell)) e ∙ is_cell)
 
             cleared : ((p : ℕ) → r ≢ p → marked before p ≡ false) → (p : ℕ) → marked (onto (Label.Give given)) p ≡ false
             cleared none p = for_each (λ p. marked (onto (Label.Give given)) p ≡ false) r p (marks_mine (Label.Give given) ∙ gone (marked before r)) (λ ne. marks_other (Label.Give given) p ne ∙ none p ne)

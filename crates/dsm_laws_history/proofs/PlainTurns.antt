@@ -20,7 +20,7 @@ use Rattle.dsm_base.specs.Agrees.{is_between, is_between_of, is_between_at}
 use Rattle.dsm_base.proofs.Families.{all_from}
 use Rattle.dsm_lines.specs.declared.list.Line.{Line}
 use Rattle.dsm_lines.specs.declared.of_objects.MailGrant.{MailGrant}
-use Rattle.dsm_net.specs.Lines.{line_at, overlaid}
+use Rattle.dsm_lines.specs.Copies.{overlaid}
 use Rattle.dsm_net.specs.Processor.{Processor}
 use Rattle.dsm_net.specs.Inputs.{Input, is_grant_for, input_of_grant, input_of_opening, input_for}
 use Rattle.dsm_net.specs.Turns.{OwnTurn, own_view}
@@ -48,7 +48,7 @@ use Rattle.dsm_laws_protocol.proofs.Journeys.{found_for}
 use Rattle.dsm_laws_protocol.proofs.Threads.{is_other, Answer, ByTake, ByAsk, ByGive, ByOther, answered}
 use Rattle.dsm_laws_protocol.proofs.Own.{IsOwnTurn, label_follows}
 use Rattle.dsm_laws_protocol.proofs.Reached.{IsReached}
-use Rattle.dsm_laws_history.specs.NewerLines.{lines_between, Brings, AreNewer}
+use Rattle.dsm_laws_history.specs.NewerLines.{line_at, lines_between, Brings, AreNewer}
 use Rattle.dsm_laws_history.proofs.Lines.{overlaid_chosen}
 use Rattle.dsm_laws_history.proofs.Labels.{IsSameSight, IsFreeToGo, plain_label}
 use Rattle.dsm_laws_history.proofs.OwnParts.{versions_total}

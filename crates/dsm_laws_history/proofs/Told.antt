@@ -11,7 +11,8 @@ use Rattle.dsm_base.specs.Threads.{Semantics}
 use Rattle.dsm_base.specs.Plain.{PlainState, Turn, IsPlainTurn, after_run, labels_of}
 use Rattle.dsm_lines.specs.declared.list.Line.{Line}
 use Rattle.dsm_msg.specs.declared.message.Body.{Body}
-use Rattle.dsm_net.specs.Lines.{line_at, lines_of, line_with}
+use Rattle.dsm_lines.specs.Copies.{line_with}
+use Rattle.dsm_lines.specs.Places.{lines_of}
 use Rattle.dsm_net.specs.Processor.{Own}
 use Rattle.dsm_net.specs.Turns.{dirty_lines}
 use Rattle.dsm_net.specs.Effects.{release_of, body_of}
@@ -28,7 +29,7 @@ use Rattle.dsm_laws_protocol.specs.Courses.{upto}
 use Rattle.dsm_laws_protocol.specs.Steps.{Step, turns_of}
 use Rattle.dsm_laws_protocol.specs.Worlds.{World}
 use Rattle.dsm_laws_protocol.proofs.Courses.{upto_grown, upto_all}
-use Rattle.dsm_laws_history.specs.NewerLines.{lines_between, version_before, IsTrue}
+use Rattle.dsm_laws_history.specs.NewerLines.{line_at, lines_between, version_before, IsTrue}
 use Rattle.dsm_laws_history.proofs.Lines.{lines_same}
 use Rattle.dsm_laws_history.proofs.Marks.{AreMarks, marks_of}
 use Rattle.dsm_laws_history.proofs.OwnParts.{IsOwnPart}

@@ -13,7 +13,7 @@ use Rattle.dsm_msg.specs.declared.message.Body.{Body}
 use Rattle.dsm_msg.specs.declared.message.Msg.{Msg}
 use Rattle.dsm_home.specs.declared.waiting.Waiting.{Waiting}
 use Rattle.dsm_home.specs.LockStates.{version_made}
-use Rattle.dsm_net.specs.Lines.{line_at, lines_where}
+use Rattle.dsm_lines.specs.Copies.{lines_where}
 use Rattle.dsm_net.specs.Processor.{HomeLines, Processor}
 use Rattle.dsm_laws_runs.specs.OwnPart.{own_versions_of}
 use Rattle.dsm_laws_runs.specs.Newer.{stores_to, stamp_of}
@@ -24,7 +24,7 @@ use Rattle.dsm_laws_runs.proofs.Memory.{memory_at_turn}
 use Rattle.dsm_laws_runs.proofs.Newer.{newer_turn}
 use Rattle.dsm_laws_protocol.specs.Courses.{upto}
 use Rattle.dsm_laws_protocol.proofs.Courses.{upto_grown}
-use Rattle.dsm_laws_history.specs.NewerLines.{lines_between, version_before, IsVersion, AreNewer, IsTrue, AreOfVersion}
+use Rattle.dsm_laws_history.specs.NewerLines.{line_at, lines_between, version_before, IsVersion, AreNewer, IsTrue, AreOfVersion}
 
 -- Lists.
 

@@ -1,16 +1,18 @@
 -- Which lines turns, messages and homes have, by the history: those that were stored to after the version of who takes them, and no other.
-use Rattle.std.specs.Prelude.{◌≡◌, ℕ, ◌+◌, ◌-◌, ◌≤◌, List, [], ◌∷◌, length, Some}
+use Rattle.std.specs.Prelude.{◌≡◌, ℕ, ◌+◌, ◌-◌, ◌≤◌, List, [], ◌∷◌, length, Some, option_map, unwrap_or}
 use Rattle.std.specs.List.{AllByRecursion}
 use Rattle.dsm_base.specs.declared.label.Label.{Label}
 use Rattle.dsm_base.specs.declared.setup.Object.{Object}
+use Rattle.dsm_base.specs.declared.setup.Piece.{Piece}
 use Rattle.dsm_base.specs.declared.setup.Setup.{Setup}
 use Rattle.dsm_base.specs.Threads.{Semantics}
 use Rattle.dsm_base.specs.Plain.{Turn, after_run, labels_of}
 use Rattle.dsm_lines.specs.declared.list.Line.{Line}
 use Rattle.dsm_lines.specs.declared.of_objects.MailGrant.{MailGrant}
+use Rattle.dsm_lines.specs.Copies.{lines_where}
+use Rattle.dsm_lines.specs.Places.{lines, place_of}
 use Rattle.dsm_msg.specs.declared.message.Body.{Body}
 use Rattle.dsm_home.specs.LockStates.{version_made}
-use Rattle.dsm_net.specs.Lines.{line_at, lines_where}
 use Rattle.dsm_net.specs.declared.trace.Letter.{Letter}
 use Rattle.dsm_net.specs.declared.trace.Group.{Group}
 use Rattle.dsm_net.specs.Processor.{HomeLines, Processor}
@@ -21,6 +23,10 @@ use Rattle.dsm_laws_runs.specs.Versions.{IsCellOf, SameAt, memory_at}
 use Rattle.dsm_laws_runs.specs.Newer.{is_newer, stamp_of}
 use Rattle.dsm_laws_protocol.specs.Courses.{upto}
 use Rattle.dsm_laws_protocol.specs.Steps.{Step, steps_of, turns_of}
+
+-- the number of a cell's line; a cell in no piece has one past the last
+abbrev pub line_at : List Piece → ℕ → ℕ
+line_at pieces cell = unwrap_or (option_map (λ place. place.line) (place_of pieces cell)) (lines pieces)
 
 -- the lines of a lock that were stored to in the holds that made its versions over one, up to another, as they were when that one was made
 abbrev pub lines_between : {S : Type 0} → Setup → (ℕ → S) → Semantics S → List Turn → ℕ → ℕ → ℕ → List Line

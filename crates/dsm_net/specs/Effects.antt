@@ -11,11 +11,11 @@ use Rattle.dsm_base.specs.Family.{update}
 use Rattle.dsm_base.specs.Output.{line_text}
 use Rattle.dsm_base.specs.Threads.{Semantics}
 use Rattle.dsm_lines.specs.declared.list.Line.{Line}
+use Rattle.dsm_lines.specs.Copies.{overlaid, stamped}
 use Rattle.dsm_msg.specs.declared.message.Body.{Body}
 use Rattle.dsm_msg.specs.declared.message.Msg.{Msg}
 use Rattle.dsm_home.specs.declared.waiting.Waiting.{Waiting}
 use Rattle.dsm_home.specs.LockStates.{LockState, mode_among, waits_for, lock_with_request, lock_after_release, version_made}
-use Rattle.dsm_net.specs.Lines.{overlaid}
 use Rattle.dsm_net.specs.Processor.{Own, HomeLines, Processor}
 use Rattle.dsm_net.specs.Turns.{OwnTurn, own_after, mail_after, dirty_lines}
 use Rattle.dsm_net.specs.Messages.{processor_named, keeper_of, message, with_carry}
@@ -85,12 +85,10 @@ waiting_of from turn mode «have» = record {
 
 -- the home's lines once those of a version have come
 abbrev pub with_version : List Piece → HomeLines → ℕ → List Line → HomeLines
-with_version pieces home version [] = home
-with_version pieces home version (line ∷ lines) =
-    with_version pieces record {
-      stamps = update home.stamps line.number version;
-      values = overlaid pieces home.values (line ∷ []);
-    } version lines
+with_version pieces home version lines = record {
+  stamps = stamped home.stamps version lines;
+  values = overlaid pieces home.values lines;
+}
 
 abbrev pub with_last : {S : Type 0} → Processor S → ℕ → ℕ → Processor S
 with_last s from turn = record s { peers = update s.peers from (record (s.peers from) { last = turn }) }

@@ -1,23 +1,16 @@
 -- How a home grants a lock.
-use Rattle.std.specs.Prelude.{ℕ, Bool, ◌==◌, not, nat_lt, List, ◌++◌, map, filter}
+use Rattle.std.specs.Prelude.{ℕ, Bool, ◌==◌, not, List, ◌++◌, map, filter}
 use Rattle.dsm_base.specs.declared.names.Lock.{Lock}
-use Rattle.dsm_base.specs.declared.setup.Object.{Object}
 use Rattle.dsm_base.specs.declared.setup.Setup.{Setup}
 use Rattle.dsm_base.specs.Family.{update}
-use Rattle.dsm_lines.specs.declared.list.Line.{Line}
 use Rattle.dsm_lines.specs.declared.of_objects.MailGrant.{MailGrant}
+use Rattle.dsm_lines.specs.Copies.{newer_lines}
 use Rattle.dsm_msg.specs.declared.message.Body.{Body}
 use Rattle.dsm_msg.specs.declared.message.Msg.{Msg}
 use Rattle.dsm_home.specs.declared.waiting.Waiting.{Waiting}
 use Rattle.dsm_home.specs.LockStates.{grants_of, lock_after_grants}
-use Rattle.dsm_net.specs.Lines.{lines_where}
-use Rattle.dsm_net.specs.Processor.{HomeLines, Processor}
+use Rattle.dsm_net.specs.Processor.{Processor}
 use Rattle.dsm_net.specs.Messages.{message}
-
--- the lines of a lock that were stored to after a version, as they are at its home
-abbrev pub newer_lines : Setup → HomeLines → Lock → ℕ → List Line
-newer_lines setup lines lock version =
-    lines_where setup.bindings (λ line. nat_lt version (lines.stamps line)) lines.values (Object.Lock lock)
 
 -- the grant for one who waits, as it comes to the home's own mailbox
 abbrev pub own_grant : {S : Type 0} → Setup → Processor S → Lock → Waiting → MailGrant
@@ -26,14 +19,14 @@ own_grant setup s lock one = record {
   lock = lock;
   mode = one.mode;
   version = (s.locks lock.0).version;
-  lines = newer_lines setup s.lines lock one.«have»;
+  lines = newer_lines setup.bindings s.lines.stamps s.lines.values lock one.«have»;
 }
 
 -- the same as a message to another processor
 abbrev pub grant_message : {S : Type 0} → Setup → ℕ → Processor S → Lock → Waiting → Msg
 grant_message setup me s lock one =
     message me s one.proc.0
-    (Body.Grant lock one.mode one.turn (s.locks lock.0).version (newer_lines setup s.lines lock one.«have»))
+    (Body.Grant lock one.mode one.turn (s.locks lock.0).version (newer_lines setup.bindings s.lines.stamps s.lines.values lock one.«have»))
 
 abbrev pub is_of : ℕ → Waiting → Bool
 is_of p one = one.proc.0 == p

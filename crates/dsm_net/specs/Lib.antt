@@ -1,4 +1,3 @@
-pub mod Lines
 pub mod Processor
 pub mod Inputs
 pub mod Turns

@@ -1,6 +1,5 @@
 -- A turn of a processor, and what it leaves of what is its own.
-use Rattle.std.specs.Prelude.{ℕ, ◌+◌, Bool, true, ◌&&◌, ◌==◌, not, if◌then◌else◌, nat_lt, List, filter, Option, Some, None, option_map}
-use Rattle.std.specs.List.{list_any}
+use Rattle.std.specs.Prelude.{ℕ, ◌+◌, Bool, if◌then◌else◌, nat_lt, List, filter, Option, Some, None, option_map}
 use Rattle.dsm_base.specs.declared.names.Mode.{Mode}
 use Rattle.dsm_base.specs.declared.label.Label.{Label}
 use Rattle.dsm_base.specs.declared.setup.Object.{Object}
@@ -12,7 +11,8 @@ use Rattle.dsm_base.specs.Endings.{ending_after}
 use Rattle.dsm_base.specs.Threads.{Semantics}
 use Rattle.dsm_base.specs.Plain.{Surroundings, label_of, memory_after, held_after, arrived_after, crossed_after}
 use Rattle.dsm_lines.specs.declared.list.Line.{Line}
-use Rattle.dsm_net.specs.Lines.{line_at, lines_of, lines_where, overlaid}
+use Rattle.dsm_lines.specs.Copies.{lines_where, overlaid, with_mark, without_lines}
+use Rattle.dsm_lines.specs.Places.{place_of}
 use Rattle.dsm_net.specs.Processor.{Own, Mail, Processor}
 use Rattle.dsm_net.specs.Inputs.{Input, input_for}
 
@@ -42,13 +42,9 @@ own_turn setup threads p s = turn_with setup threads p s.own (input_for s (threa
 
 -- What a turn leaves.
 
--- marks without those of an object's lines
-abbrev pub without_lines : List Piece → (ℕ → Bool) → Object → ℕ → Bool
-without_lines pieces dirty object line = dirty line && not (list_any (λ other. other == line) (lines_of pieces object))
-
 -- a store marks the line of its cell; a release and an arrival take the marks of the object's lines away
 abbrev pub dirty_after : List Piece → (ℕ → Bool) → Label → ℕ → Bool
-dirty_after pieces dirty (Label.Store cell value) = update dirty (line_at pieces cell.0) true
+dirty_after pieces dirty (Label.Store cell value) = with_mark dirty (place_of pieces cell.0)
 dirty_after pieces dirty (Label.Give lock) = without_lines pieces dirty (Object.Lock lock)
 dirty_after pieces dirty (Label.Arrive bar) = without_lines pieces dirty (Object.Bar bar)
 dirty_after pieces dirty _ = dirty
