@@ -1,0 +1,5 @@
+//! Locks at their homes through their public calls.
+#![tactic(auto)]
+
+#[cfg(test)]
+mod locks;
