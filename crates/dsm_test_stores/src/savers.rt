@@ -10,6 +10,7 @@ use dsm_saver::{Begun, Saver, Wrote};
 use dsm_stores::{Fuse, MuteStore};
 use std::alloc::Global;
 use std::fs;
+use std::process::Abort;
 use std::test::Fail;
 
 /// How an image of two blocks ends, of which one is written.
@@ -56,7 +57,7 @@ fn is_saved(loaded: &Option<Vec<u8>>, byte: Option<u8>) -> bool {
 }
 
 /// Writes a block of the image under way, and ends it.
-fn end(rt: HostRuntime, saver: &mut Saver, store: &mut dyn Store, ending: Ending)
+fn end(rt: &impl Abort, saver: &mut Saver, store: &mut dyn Store, ending: Ending)
     requires { Fits saver.old (store_holds store.old) (store_room store.old) }
 {
     assert_eq!(rt; saver.block(store), Wrote::Block(0));
@@ -76,24 +77,25 @@ fn end(rt: HostRuntime, saver: &mut Saver, store: &mut dyn Store, ending: Ending
 
 /// Begins an image in a store as it is, and ends it.
 fn begin_and_end(
-    rt: HostRuntime,
+    rt: &impl Abort,
+    alloc: Global,
     store: &mut dyn Store,
     byte: u8,
     ending: Ending,
 ) -> Result<(), Fail> {
     let mut saver = Saver::new();
-    let _ = saver.load_last(rt.alloc(), store)?;
-    let bytes = image(rt.alloc(), byte)?;
+    let _ = saver.load_last(alloc, store)?;
+    let bytes = image(alloc, byte)?;
     assert_eq!(rt; saver.begin(store, bytes, 7)?, Begun::Started(2));
     end(rt, &mut saver, store, ending);
     Ok(())
 }
 
 /// Goes through all endings over one store.
-fn go_through(rt: HostRuntime, store: &mut Box<dyn Store>) -> Result<(), Fail> {
+fn go_through(rt: &impl Abort, alloc: Global, store: &mut Box<dyn Store>) -> Result<(), Fail> {
     for (byte, ending, saved) in ENDINGS {
-        begin_and_end(rt, &mut **store, *byte, *ending)?;
-        let loaded = Saver::new().load_last(rt.alloc(), &mut **store)?;
+        begin_and_end(rt, alloc, &mut **store, *byte, *ending)?;
+        let loaded = Saver::new().load_last(alloc, &mut **store)?;
         assert!(rt; is_saved(&loaded, *saved), "{byte} {ending:?}");
     }
     assert_eq!(rt; store.faults(), 0);
@@ -121,14 +123,14 @@ fn the_last_marked_image_is_saved_in_each_kind_of_store(rt: HostRuntime) -> Resu
     stores.push(Box::new(alloc, MuteStore::new(MemStore::new(alloc), None))?)?;
     stores.push(Box::new(alloc, DirStore::new(alloc, rt, folder)?)?)?;
     for store in &mut stores {
-        go_through(rt, store)?;
+        go_through(&rt, alloc, store)?;
     }
     clear_folder(rt, folder)
 }
 
 /// Writes an image of two blocks whole, and answers whether it was marked.
 fn is_marked(
-    rt: HostRuntime,
+    alloc: Global,
     saver: &mut Saver,
     store: &mut dyn Store,
     byte: u8,
@@ -136,7 +138,7 @@ fn is_marked(
     requires none { saver.old.image ≡ None }
     requires mark { HasMark saver.old.marked (store_holds store.old) }
 {
-    let bytes = image(rt.alloc(), byte)?;
+    let bytes = image(alloc, byte)?;
     let _ = saver.begin(store, bytes, 7)?;
     let _ = saver.block(store);
     let _ = saver.block(store);
@@ -144,14 +146,14 @@ fn is_marked(
 }
 
 /// Writes one image after another, of which the second fails, and loads.
-fn fail_the_second(rt: HostRuntime, store: &mut dyn Store) -> Result<(), Fail> {
+fn fail_the_second(rt: &impl Abort, alloc: Global, store: &mut dyn Store) -> Result<(), Fail> {
     let mut saver = Saver::new();
-    let _ = saver.load_last(rt.alloc(), store)?;
-    assert!(rt; is_marked(rt, &mut saver, store, 1)?);
-    let _ = saver.load_last(rt.alloc(), store)?;
-    assert!(rt; !is_marked(rt, &mut saver, store, 2)?);
+    let _ = saver.load_last(alloc, store)?;
+    assert!(rt; is_marked(alloc, &mut saver, store, 1)?);
+    let _ = saver.load_last(alloc, store)?;
+    assert!(rt; !is_marked(alloc, &mut saver, store, 2)?);
     assert_eq!(rt; store.faults(), 1);
-    let loaded = saver.load_last(rt.alloc(), store)?;
+    let loaded = saver.load_last(alloc, store)?;
     assert!(rt; is_saved(&loaded, Some(1)));
     Ok(())
 }
@@ -166,7 +168,7 @@ fn an_image_that_fails_is_given_up(rt: HostRuntime) -> Result<(), Fail> {
     ] {
         let mut store = MemStore::new(rt.alloc());
         store.fail(call, nth.max(1))?;
-        fail_the_second(rt, &mut store)?;
+        fail_the_second(&rt, rt.alloc(), &mut store)?;
     }
     Ok(())
 }
@@ -182,7 +184,7 @@ fn a_load_that_fails_is_a_fault_of_the_store(rt: HostRuntime) -> Result<(), Fail
         store.fail(call, nth.max(1))?;
         let mut saver = Saver::new();
         let _ = saver.load_last(rt.alloc(), &mut store)?;
-        assert!(rt; is_marked(rt, &mut saver, &mut store, 1)?);
+        assert!(rt; is_marked(rt.alloc(), &mut saver, &mut store, 1)?);
         assert_eq!(rt;
             saver.load_last(rt.alloc(), &mut store).err(),
             Some(LoadErr::StoreFault)
