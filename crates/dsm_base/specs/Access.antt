@@ -9,6 +9,7 @@ pub record Rights : Type 0 where
   pub held : ℕ → Option Mode
   pub crossed : ℕ → ℕ
 
+-- whether a cell is in a piece
 abbrev pub has_cell : ℕ → Piece → Bool
 has_cell cell piece = nat_le piece.first.0 cell && nat_lt cell (piece.first.0 + piece.count)
 
@@ -41,12 +42,15 @@ abbrev pub may_load_piece : ℕ → Rights → Option Piece → Bool
 may_load_piece p rights None = false
 may_load_piece p rights (Some piece) = may_load_of p rights piece piece.object
 
+-- whether p may store to a cell of this piece; a cell in no piece is nobody's
 abbrev pub may_store_piece : ℕ → Rights → Option Piece → Bool
 may_store_piece p rights None = false
 may_store_piece p rights (Some piece) = may_store_of p rights piece piece.object
 
+-- whether p may load a cell
 abbrev pub may_load : List Piece → ℕ → Rights → ℕ → Bool
 may_load pieces p rights cell = may_load_piece p rights (piece_of pieces cell)
 
+-- whether p may store to a cell
 abbrev pub may_store : List Piece → ℕ → Rights → ℕ → Bool
 may_store pieces p rights cell = may_store_piece p rights (piece_of pieces cell)

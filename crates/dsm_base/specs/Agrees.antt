@@ -13,6 +13,7 @@ abbrev pub is_between_at : (ℕ → ℕ) → (ℕ → ℕ) → Object → Bool
 is_between_at arrived crossed (Object.Lock lock) = false
 is_between_at arrived crossed (Object.Bar bar) = nat_lt (crossed bar.0) (arrived bar.0)
 
+-- whether a processor has come to the barrier of this piece and not crossed it yet
 abbrev pub is_between_of : (ℕ → ℕ) → (ℕ → ℕ) → Option Piece → Bool
 is_between_of arrived crossed None = false
 is_between_of arrived crossed (Some piece) = is_between_at arrived crossed piece.object

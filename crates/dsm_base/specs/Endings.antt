@@ -18,6 +18,7 @@ endings_of [] = λ p. None
 endings_of (turn ∷ before) =
     update (endings_of before) turn.proc (ending_after (endings_of before turn.proc) turn.label)
 
+-- whether a thread came to its end, not to a stop
 abbrev pub is_ended : Option Ending → Bool
 is_ended None = false
 is_ended (Some Ending.Ended) = true

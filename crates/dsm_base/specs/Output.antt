@@ -10,6 +10,7 @@ use Rattle.dsm_base.specs.Plain.{Turn}
 abbrev pub IsPrintable : ℕ → Type 0
 IsPrintable byte = (0x20 ≤ byte) × (byte ≤ 0x7E)
 
+-- each byte is printable
 abbrev pub ArePrintable : List ℕ → Type 0
 ArePrintable text = AllByRecursion IsPrintable text
 

@@ -14,6 +14,7 @@ call_number CallKind.Write = 4
 call_number CallKind.Mark = 5
 call_number CallKind.Marked = 6
 
+-- whether two kinds of call are the same
 abbrev pub same_call : CallKind → CallKind → Bool
 same_call call other = call_number call == call_number other
 
@@ -25,6 +26,7 @@ is_next call fault = same_call fault.call call && (fault.left == 1)
 abbrev pub is_due : CallKind → List PlannedFault → Bool
 is_due call plan = list_any (is_next call) plan
 
+-- a planned fault after a call of this kind: one call less is left before it
 abbrev pub counted_one : CallKind → PlannedFault → PlannedFault
 counted_one call fault = if same_call fault.call call then record fault { left = fault.left - 1 } else fault
 

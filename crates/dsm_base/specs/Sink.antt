@@ -13,6 +13,7 @@ pub record Takes (before now : Option (List ℕ)) (bytes : List ℕ) (count : �
   pub some : 0 < length bytes → 0 < count
   pub taken : now ≡ appended before (take count bytes)
 
+-- a put takes some of the bytes, or fails and takes none
 abbrev pub PutTakes : Option (List ℕ) → Option (List ℕ) → List ℕ → Result ℕ ReadErr → Type 0
 PutTakes before now bytes result = MatchResult result (Takes before now bytes) (λ _. now ≡ before)
 

@@ -22,6 +22,7 @@ pub record IsMark (mark : ℕ × ℕ) : Type 0 where
   pub slot : IsSlot mark.0
   pub some : 1 ≤ mark.1
 
+-- the contents with another mark
 abbrev pub with_mark : Option (ℕ × ℕ) → Contents → Contents
 with_mark mark contents = record contents { mark = mark }
 

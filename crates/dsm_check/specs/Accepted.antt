@@ -13,6 +13,7 @@ use Rattle.dsm_check.specs.Programs.{Program, checked}
 abbrev pub IsAccepted : Program → Type 0
 IsAccepted program = (items : List Item) × IsTrue (is_sound_program items) × (checked items ≡ Ok program)
 
+-- a program of its parts
 abbrev pub program_from : Names → ℕ → ℕ → ℕ → ℕ → ℕ → List Piece → List Function → Program
 program_from names main shared_cells private_cells locks barriers pieces functions = record {
   names = names_of names;

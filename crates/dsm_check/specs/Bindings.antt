@@ -33,6 +33,7 @@ as_index name None None = Ok 0
 as_index name (Some size) (Some index) = Ok (natural index)
 as_index name _ _ = wrong_kind name
 
+-- what a name stands for, which has to be a barrier
 abbrev pub as_barrier : Name → Named → Check ℕ
 as_barrier name (Named.Barrier number) = Ok number
 as_barrier name _ = wrong_kind name
@@ -42,16 +43,19 @@ abbrev pub as_shared : Name → Named → Check Array
 as_shared name (Named.Cells Sharing.Shared first size) = Ok (record { first = first; size = extent size })
 as_shared name _ = wrong_kind name
 
+-- the locks that a name stands for
 abbrev pub locks_of : List Entry → Name → Check (ℕ × Option ℕ)
 locks_of names name = do
   named ← used names name
   as_locks name named
 
+-- the barrier that a name stands for
 abbrev pub barrier_of : List Entry → Name → Check ℕ
 barrier_of names name = do
   named ← used names name
   as_barrier name named
 
+-- the shared cells that a name stands for
 abbrev pub shared_of : List Entry → Name → Check Array
 shared_of names name = do
   named ← used names name
@@ -72,6 +76,7 @@ bound pieces line cell count added = elim (first_bound pieces cell count) [
   | Some taken ↦ Err (err.BindOverlap taken line)
 ]
 
+-- cells that are bound to a lock
 abbrev pub lock_piece : ℕ → ℕ → ℕ → Piece
 lock_piece lock cell count = record {
   object = Object.Lock (record { 0 = lock });
@@ -87,6 +92,7 @@ abbrev pub lock_pieces : ℕ → ℕ → ℕ → ℕ → List Piece
 lock_pieces lock cell count zero = []
 lock_pieces lock cell count (suc more) = lock_piece lock cell count ∷ lock_pieces (lock + 1) (cell + count) count more
 
+-- cells that are bound to a barrier, with their owner, phase and period
 abbrev pub barrier_piece : ℕ → ℕ → BindBarrier → Piece
 barrier_piece barrier cell bind = record {
   object = Object.Bar (record { 0 = barrier });
@@ -108,6 +114,7 @@ is_rhythm bind =
 
 -- Each binding, after the pieces of those before it.
 
+-- the pieces with those of `bind`
 abbrev pub with_bind : List Entry → List Piece → Bind → Check (List Piece)
 with_bind names pieces bind = do
   locks ← locks_of names bind.lock
@@ -119,6 +126,7 @@ with_bind names pieces bind = do
       then bound pieces bind.line first count (lock_piece (locks.0 + index) first count ∷ [])
       else Err (err.BindRange bind.line)
 
+-- the pieces with those of `bind_each`: as many cells for each lock of an array
 abbrev pub with_bind_each : List Entry → List Piece → BindEach → Check (List Piece)
 with_bind_each names pieces bind = do
   locks ← locks_of names bind.locks
@@ -129,6 +137,7 @@ with_bind_each names pieces bind = do
       then bound pieces bind.line cells.first (size * count) (lock_pieces locks.0 cells.first count size)
       else Err (err.BindRange bind.line)
 
+-- the pieces with those of `bind_barrier`
 abbrev pub with_bind_barrier : List Entry → List Piece → BindBarrier → Check (List Piece)
 with_bind_barrier names pieces bind = do
   barrier ← barrier_of names bind.barrier
@@ -138,6 +147,7 @@ with_bind_barrier names pieces bind = do
       then bound pieces bind.line first (natural bind.count) (barrier_piece barrier first bind ∷ [])
       else Err (err.BindRange bind.line)
 
+-- the pieces with those of an item
 abbrev pub with_binding : List Entry → List Piece → t.Item → Check (List Piece)
 with_binding names pieces (t.bind bind) = with_bind names pieces bind
 with_binding names pieces (t.bind_each bind) = with_bind_each names pieces bind

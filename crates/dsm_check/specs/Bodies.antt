@@ -28,10 +28,12 @@ abbrev pub as_array : Name → Named → Check (Sharing × Array)
 as_array name (Named.Cells sharing first (Some size)) = Ok (sharing, record { first = first; size = size })
 as_array name _ = wrong_kind name
 
+-- whether a function returns nothing
 abbrev pub is_void : Returns → Bool
 is_void Returns.Int = false
 is_void Returns.Void = true
 
+-- how many expressions there are
 abbrev pub count_of : t.Expressions → ℕ
 count_of t.nil = 0
 count_of (t.cons e rest) = suc (count_of rest)
@@ -45,6 +47,7 @@ as_called needed name given (Named.Function number returns wanted) =
     else Err (err.ArgCount name.text name.line (min given 4294967295) wanted)))
 as_called needed name given _ = wrong_kind name
 
+-- places and expressions, each with its names resolved
 abbrev mutual
   pub resolve_place : List Entry → t.Place → Check r.Location
   resolve_place names (t.single name) = do
@@ -140,6 +143,7 @@ resolve_variable scope variable = do
   initial ← optional (λ initial. resolve after.names initial.value) variable.initial
   Ok (record { slot = scope.slots; initial = initial }, after)
 
+-- a scope in which a block begins
 abbrev pub open_block : Scope → Scope
 open_block scope = record scope { names = opened ∷ scope.names }
 
@@ -161,10 +165,12 @@ abbrev pub as_one_lock : Name → Named → Check r.LockPlace
 as_one_lock name (Named.Locks first None) = Ok (r.one_lock (record { 0 = first }) name.line)
 as_one_lock name _ = wrong_kind name
 
+-- what a name stands for, which has to be an array of locks
 abbrev pub as_lock_array : Name → Named → Check Array
 as_lock_array name (Named.Locks first (Some size)) = Ok (record { first = first; size = size })
 as_lock_array name _ = wrong_kind name
 
+-- a lock by its name, or by the name of an array and an index
 abbrev pub resolve_lock : List Entry → t.Place → Check r.LockPlace
 resolve_lock names (t.single name) = do
   named ← used names name
@@ -175,12 +181,14 @@ resolve_lock names (t.element name index) = do
   place ← resolve names index
   Ok (r.lock_element locks place name.line)
 
+-- a part of what is printed
 abbrev pub resolve_part : List Entry → t.Part → Check r.Part
 resolve_part names (t.part_text text) = Ok (r.part_text text)
 resolve_part names (t.part_value e) = do
   value ← resolve names e
   Ok (r.part_value value)
 
+-- each made of its own, or the first refusal
 abbrev pub all_made : {A B : Type 0} → (A → Check B) → List A → Check (List B)
 all_made make [] = Ok []
 all_made make (a ∷ rest) = do
@@ -194,12 +202,14 @@ text_bytes [] = 0
 text_bytes (t.part_text text ∷ rest) = length text + text_bytes rest
 text_bytes (t.part_value e ∷ rest) = text_bytes rest
 
+-- what is printed: at most eight parts, and 96 bytes of text
 abbrev pub resolve_print : List Entry → List t.Part → Check (List r.Part)
 resolve_print names parts = do
   count ← within which.PrintParts 8 (length parts)
   bytes ← within which.PrintText 96 (text_bytes parts)
   all_made (resolve_part names) parts
 
+-- the start of a `for`, with the scope after it
 abbrev pub resolve_start : Scope → t.ForStart → Check (r.ForStart × Scope)
 resolve_start scope t.start_nothing = Ok (r.start_nothing, scope)
 resolve_start scope (t.start_variables variables) = do
@@ -215,6 +225,7 @@ resolve_return around names line None = Ok None
 resolve_return around names line (Some e) =
     if is_void around.returns then Err (err.WrongKind around.name line) else optional (resolve names) (Some e)
 
+-- statements, one and many
 abbrev mutual
   -- a statement, by whether it is in a loop, with the scope after it; one that is part of another is a block of its own
   pub resolve_statement : Around → Bool → Scope → t.Statement → Check (r.Statement × Scope)
@@ -285,6 +296,7 @@ resolve_function names function = do
   made ← resolve_statements (record { name = function.name.text; returns = function.returns }) false start function.body
   Ok (record { params = length (params_of function.params); slots = made.1.slots; body = made.0 })
 
+-- the functions with that of an item, if it is one
 abbrev pub with_body : List Entry → List r.Function → t.Item → Check (List r.Function)
 with_body names functions (t.function function) = do
   made ← resolve_function names function

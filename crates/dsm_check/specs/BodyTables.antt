@@ -9,6 +9,7 @@ use Rattle.dsm_check.specs.Environments.{Entry, opened, known}
 use Rattle.dsm_check.specs.Bodies as bodies
 use Rattle.dsm_check.specs.FileTables.{names_of}
 
+-- an entry of a table as the rules see it
 abbrev pub entry_of : Known → Entry
 entry_of Opened = opened
 entry_of (Variable name slot) = known name.now (Named.Variable slot)
@@ -17,6 +18,7 @@ entry_of (Variable name slot) = known name.now (Named.Variable slot)
 abbrev pub locals_of : Scope → List Entry
 locals_of scope = map entry_of scope.locals
 
+-- a table as the rules see it
 abbrev pub scope_of : Scope → bodies.Scope
 scope_of scope = record { names = locals_of scope ++ names_of scope.file.now; slots = scope.slots }
 
@@ -26,6 +28,7 @@ blocks_in [] = 0
 blocks_in (Opened ∷ locals) = suc (blocks_in locals)
 blocks_in (Variable name slot ∷ locals) = blocks_in locals
 
+-- whether an entry is the beginning of a block
 abbrev pub is_opened : Known → Bool
 is_opened Opened = true
 is_opened (Variable name slot) = false

@@ -12,6 +12,7 @@ abbrev pub Check : Type 0 → Type 0
 Check A = Result A ProgErr
 
 infixl 10 ◌>>=◌
+-- one rule and then another; the first refusal stands
 abbrev pub ◌>>=◌ : {A B : Type 0} → Check A → (A → Check B) → Check B
 (Ok a) >>= next = next a
 (Err e) >>= next = Err e

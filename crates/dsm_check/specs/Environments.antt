@@ -3,6 +3,7 @@ use Rattle.std.specs.Prelude.{ℕ, ◌+◌, Bool, false, ◌||◌, bytes_eq, Lis
 use Rattle.dsm_syntax.specs.declared.tree.Sharing.{Sharing}
 use Rattle.dsm_check.specs.declared.names.Named.{Named}
 
+-- the entries of a list of names, the newest first
 pub data Entry : Type 0 where
   -- where a block begins
   opened : Entry
@@ -46,14 +47,17 @@ cells_in Sharing.Shared (Named.Cells Sharing.Shared first size) = extent size
 cells_in Sharing.Private (Named.Cells Sharing.Private first size) = extent size
 cells_in sharing named = 0
 
+-- how many locks a name stands for
 abbrev pub locks_in : Named → ℕ
 locks_in (Named.Locks first size) = extent size
 locks_in named = 0
 
+-- how many barriers a name stands for
 abbrev pub barriers_in : Named → ℕ
 barriers_in (Named.Barrier number) = 1
 barriers_in named = 0
 
+-- how many functions a name stands for
 abbrev pub functions_in : Named → ℕ
 functions_in (Named.Function number returns params) = 1
 functions_in named = 0

@@ -17,10 +17,12 @@ abbrev pub size_of : Name → Option ℤ → Check (Option ℕ)
 size_of name None = Ok None
 size_of name (Some size) = if natural size == 0 then wrong_kind name else Ok (Some (natural size))
 
+-- which limit cells of this kind have
 abbrev pub cells_limit : Sharing → Which
 cells_limit Sharing.Shared = which.SharedCells
 cells_limit Sharing.Private = which.PrivateCells
 
+-- how many cells of this kind there may be
 abbrev pub most_cells : Sharing → ℕ
 most_cells Sharing.Shared = 65536
 most_cells Sharing.Private = 16384
@@ -34,6 +36,7 @@ with_cells sharing names cell = do
   count ← within (cells_limit sharing) (most_cells sharing) (first + extent size)
   Ok (known name (Named.Cells sharing first size) ∷ names)
 
+-- the names with a lock, or an array of locks
 abbrev pub with_locks : List Entry → Declarator → Check (List Entry)
 with_locks names lock = do
   name ← new names lock.name
@@ -42,6 +45,7 @@ with_locks names lock = do
   count ← within which.Locks 256 (first + extent size)
   Ok (known name (Named.Locks first size) ∷ names)
 
+-- the names with a barrier
 abbrev pub with_barrier : List Entry → Name → Check (List Entry)
 with_barrier names barrier = do
   name ← new names barrier
@@ -49,11 +53,13 @@ with_barrier names barrier = do
   count ← within which.Barriers 64 (number + 1)
   Ok (known name (Named.Barrier number) ∷ names)
 
+-- the names of parameters
 abbrev pub params_of : t.Params → List Name
 params_of t.no_params = []
 params_of t.void_params = []
 params_of (t.named_params names) = names
 
+-- the names with a function
 abbrev pub with_function : List Entry → t.Function → Check (List Entry)
 with_function names function = do
   name ← new names function.name
@@ -62,6 +68,7 @@ with_function names function = do
   params ← within which.Params 16 (length (params_of function.params))
   Ok (known name (Named.Function number function.returns params) ∷ names)
 
+-- the names with those of an item
 abbrev pub with_item : List Entry → t.Item → Check (List Entry)
 with_item names (t.cells sharing cells) = each (with_cells sharing) names cells
 with_item names (t.locks locks) = each with_locks names locks
@@ -75,6 +82,7 @@ with_item names (t.function function) = with_function names function
 abbrev pub file_names : List t.Item → Check (List Entry)
 file_names items = each with_item [] items
 
+-- the function in which threads begin
 abbrev pub main_name : List ℕ
 main_name = codes "main"
 

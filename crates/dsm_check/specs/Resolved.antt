@@ -37,6 +37,7 @@ pub record Variable : Type 0 where
   pub slot : ℕ
   pub initial : Option Expression
 
+-- a part of what is printed: a text, or the digits of a value
 pub data Part : Type 0 where
   part_text : List ℕ → Part
   part_value : Expression → Part
@@ -74,6 +75,7 @@ mutual
     none : Statements
     then : Statement → Statements → Statements
 
+-- a function: how many parameters it has, how many slots with them, and its body
 pub record Function : Type 0 where
   pub params : ℕ
   pub slots : ℕ

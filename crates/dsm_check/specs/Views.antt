@@ -17,6 +17,7 @@ use Rattle.dsm_check.specs.declared.resolved.Statement.{Statement, Block', If', 
 use Rattle.dsm_check.specs.declared.resolved.Function.{Function}
 use Rattle.dsm_check.specs.Resolved as r
 
+-- expressions and places, without what the code keeps beside them
 abbrev mutual
   pub view : Expression → r.Expression
   view (Number n) = r.number n
@@ -38,26 +39,32 @@ abbrev mutual
   view_row end_of-Expression = r.nil
   view_row (more_of-Expression x rest) = r.cons (view x) (view_row rest)
 
+-- expressions, one after another
 abbrev pub views : List Expression → r.Expressions
 views [] = r.nil
 views (x ∷ rest) = r.cons (view x) (views rest)
 
+-- a variable
 abbrev pub view_variable : Variable → r.Variable
 view_variable variable = record { slot = variable.slot; initial = option_view view variable.initial }
 
+-- a part of what is printed
 abbrev pub view_part : Part → r.Part
 view_part (part.Text text) = r.part_text text
 view_part (part.Value x) = r.part_value (view x)
 
+-- the start of a `for`
 abbrev pub view_start : ForStart → r.ForStart
 view_start start.Nothing = r.start_nothing
 view_start (start.Variables variables) = r.start_variables (map view_variable variables.items)
 view_start (start.Expression x) = r.start_expression (view x)
 
+-- a lock
 abbrev pub view_lock : LockPlace → r.LockPlace
 view_lock (lock.Single number line) = r.one_lock number line
 view_lock (lock.Element array x line) = r.lock_element array (view x) line
 
+-- statements, one and many
 abbrev mutual
   pub view_statement : Statement → r.Statement
   view_statement (Block' n statements) = r.block (view_statement_row statements)
@@ -81,10 +88,12 @@ abbrev mutual
   view_statement_row end_of-Statement = r.none
   view_statement_row (more_of-Statement statement rest) = r.then (view_statement statement) (view_statement_row rest)
 
+-- statements, one after another
 abbrev pub view_statements : List Statement → r.Statements
 view_statements [] = r.none
 view_statements (statement ∷ rest) = r.then (view_statement statement) (view_statements rest)
 
+-- a function
 abbrev pub view_function : Function → r.Function
 view_function function = record {
   params = function.params;

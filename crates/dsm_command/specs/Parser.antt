@@ -9,12 +9,15 @@ use Rattle.dsm_command.specs.Commands.{Text}
 abbrev pub names_rule : Rule
 names_rule = record (new_rule (codes "names")) { action = Some Append }
 
+-- the flag `--trace`
 abbrev pub trace_rule : Rule
 trace_rule = record (new_rule (codes "trace")) { long = Some (codes "trace"); action = Some SetTrue }
 
+-- the flag `--state`
 abbrev pub state_rule : Rule
 state_rule = record (new_rule (codes "state")) { long = Some (codes "state"); action = Some SetTrue }
 
+-- the option `--procs`, with a number
 abbrev pub procs_rule : Rule
 procs_rule = record (new_rule (codes "procs")) { long = Some (codes "procs"); action = Some Append }
 

@@ -11,6 +11,7 @@ pub record LockState : Type 0 where
   pub queue : List Waiting
   pub version : ℕ
 
+-- nobody holds it or waits for it, and it has version 0
 abbrev pub start_lock : LockState
 start_lock = record { holders = []; queue = []; version = 0 }
 
@@ -19,6 +20,7 @@ abbrev pub fits_beside : List Holder → Mode → Bool
 fits_beside [] mode = true
 fits_beside (holder ∷ holders) mode = are_compatible holder.mode mode && fits_beside holders mode
 
+-- who waits becomes who holds
 abbrev pub holder_of : Waiting → Holder
 holder_of waiting = record { proc = waiting.proc; mode = waiting.mode }
 
@@ -53,6 +55,7 @@ lock_after_grants lock = record lock {
 abbrev pub lock_with_request : LockState → Waiting → LockState
 lock_with_request lock waiting = record lock { queue = lock.queue ++ waiting ∷ [] }
 
+-- those who hold it but this one
 abbrev pub without_holder : ℕ → List Holder → List Holder
 without_holder p holders = filter (λ holder. not (holder.proc.0 == p)) holders
 

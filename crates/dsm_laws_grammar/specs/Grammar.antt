@@ -32,6 +32,7 @@ abbrev pub spell_option : {A : Type 0} → (A → List Lexeme) → Option A → 
 spell_option spell None = []
 spell_option spell (Some a) = spell a
 
+-- how places and expressions are spelled
 abbrev mutual
   pub spell_place : Place → List Lexeme
   spell_place (single name) = named name ∷ []
@@ -88,6 +89,7 @@ spell_test e = sign Sign.ParenOpen ∷ (spell e ++ sign Sign.ParenClose ∷ [])
 abbrev pub spell_lock : Word → Place → List Lexeme
 spell_lock w place = word w ∷ sign Sign.ParenOpen ∷ (spell_place place ++ sign Sign.ParenClose ∷ sign Sign.Semicolon ∷ [])
 
+-- how statements are spelled, one and many
 abbrev mutual
   pub spell_statement : Statement → List Lexeme
   spell_statement (block body) = sign Sign.BraceOpen ∷ (spell_statements body ++ sign Sign.BraceClose ∷ [])

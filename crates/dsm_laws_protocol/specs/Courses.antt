@@ -17,18 +17,21 @@ past k (x ∷ xs) = if nat_lt (length xs) k then [] else x ∷ past k xs
 
 -- What labels do to one lock.
 
+-- what a turn does to one lock
 pub data Move : Type 0 where
   asks : (mode : Mode) → Move
   takes : (mode : Mode) (version : ℕ) → Move
   gives : Move
   still : Move
 
+-- what a label does to a lock
 abbrev pub move_of : ℕ → Label → Move
 move_of lock (Label.Ask other mode) = if other.0 == lock then asks mode else still
 move_of lock (Label.Take other mode version) = if other.0 == lock then takes mode version else still
 move_of lock (Label.Give other) = if other.0 == lock then gives else still
 move_of lock _ = still
 
+-- what labels do to a lock, one after another
 abbrev pub moves_of : ℕ → List Label → List Move
 moves_of lock labels = map (move_of lock) labels
 
@@ -37,19 +40,23 @@ pub record Claim : Type 0 where
   pub turn : ℕ
   pub mode : Mode
 
+-- the claim after a move of this turn: an ask makes one, a give ends it
 abbrev pub claim_after : ℕ → Option Claim → Move → Option Claim
 claim_after turn claim (asks mode) = Some record { turn = turn; mode = mode }
 claim_after turn claim gives = None
 claim_after turn claim _ = claim
 
+-- the claim that moves leave, the newest first
 abbrev pub claim_of : List Move → Option Claim
 claim_of [] = None
 claim_of (move ∷ before) = claim_after (length before + 1) (claim_of before) move
 
+-- whether a mode is exclusive
 abbrev pub is_excl : Mode → Bool
 is_excl Mode.Shared = false
 is_excl Mode.Excl = true
 
+-- whether there is a claim, and it is exclusive
 abbrev pub is_exclusive_claim : Option Claim → Bool
 is_exclusive_claim None = false
 is_exclusive_claim (Some claim) = is_excl claim.mode
@@ -59,6 +66,7 @@ abbrev pub made_after : ℕ → Option Claim → Move → ℕ
 made_after count claim gives = if is_exclusive_claim claim then count + 1 else count
 made_after count claim _ = count
 
+-- how many versions moves make
 abbrev pub made_by : List Move → ℕ
 made_by [] = 0
 made_by (move ∷ before) = made_after (made_by before) (claim_of before) move
@@ -69,6 +77,7 @@ have_after version claim (takes mode taken) = taken
 have_after version claim gives = if is_exclusive_claim claim then version + 1 else version
 have_after version claim _ = version
 
+-- the version that a copy has after moves
 abbrev pub have_by : List Move → ℕ
 have_by [] = 0
 have_by (move ∷ before) = have_after (have_by before) (claim_of before) move

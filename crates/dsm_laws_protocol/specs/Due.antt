@@ -13,10 +13,12 @@ pub record Item (B : Type 0) : Type 0 where
   pub turn : ℕ
   pub body : B
 
+-- what a turn sends, if anything, with its number
 abbrev pub items : {B : Type 0} → ℕ → Option B → List (Item B)
 items turn None = []
 items turn (Some body) = record { turn = turn; body = body } ∷ []
 
+-- what the turns over the first k send, the oldest first
 abbrev pub due : {A B : Type 0} → (List A → A → Option B) → ℕ → List A → List (Item B)
 due makes k [] = []
 due makes k (x ∷ xs) = if nat_lt (length xs) k then [] else due makes k xs ++ items (length xs + 1) (makes xs x)
@@ -26,6 +28,7 @@ abbrev pub AreOver : {B : Type 0} → ℕ → List (Item B) → Type 0
 AreOver k [] = Unit {0}
 AreOver k (item ∷ others) = (k < item.turn) × AreOver k others
 
+-- each item is of a turn up to k
 abbrev pub AreWithin : {B : Type 0} → ℕ → List (Item B) → Type 0
 AreWithin k [] = Unit {0}
 AreWithin k (item ∷ others) = (item.turn ≤ k) × AreWithin k others
@@ -45,6 +48,7 @@ pub record IsFirstDue {A B : Type 0} (makes : List A → A → Option B) (k : �
 
 -- What a label says to a home.
 
+-- what a processor tells the home of a lock: that it asks for it, or that it gave it back
 pub data Word : Type 0 where
   asked : (lock : Lock) (mode : Mode) («have» : ℕ) → Word
   gave : (lock : Lock) (mode : Mode) (version : ℕ) → Word
@@ -58,6 +62,7 @@ abbrev pub word_of_give : Lock → ℕ → Option Claim → Option Word
 word_of_give lock version None = None
 word_of_give lock version (Some claim) = Some (gave lock claim.mode (version_made claim.mode version))
 
+-- what a label tells this home
 abbrev pub word_for : Setup → ℕ → List Label → Label → Option Word
 word_for setup home before (Label.Ask lock mode) = if home_of setup lock.0 == home then Some (asked lock mode (have_of lock.0 before)) else None
 word_for setup home before (Label.Give lock) = if home_of setup lock.0 == home then word_of_give lock (have_of lock.0 before) (claim_of (moves_of lock.0 before)) else None

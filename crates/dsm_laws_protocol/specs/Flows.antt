@@ -12,6 +12,7 @@ words_in turn (Body.Req lock mode «have») = record { turn = turn; body = asked
 words_in turn (Body.Release lock mode version lines) = record { turn = turn; body = gave lock mode version } ∷ []
 words_in turn _ = []
 
+-- what messages tell, in their order
 abbrev pub words : List Msg → List (Item Word)
 words [] = []
 words (msg ∷ msgs) = words_in msg.carry.turn msg.body ++ words msgs

@@ -41,6 +41,7 @@ pub record IsGrant (claim : Claim) (version : ℕ) (grant : MailGrant) : Type 0 
   pub is_mode : grant.mode ≡ claim.mode
   pub is_version : grant.version ≡ version
 
+-- each of these grants a claim at a version
 abbrev pub AreGrants : Claim → ℕ → List MailGrant → Type 0
 AreGrants claim version [] = Unit {0}
 AreGrants claim version (grant ∷ grants) =
@@ -79,6 +80,7 @@ pub data Stands (q : ℕ) (moves : List Move) (k version : ℕ) (modes : List Mo
 
 -- All processors.
 
+-- all that concerns one lock at one moment
 pub record Situation : Type 0 where
   pub moves : ℕ → List Move  -- by processor: what its course does to the lock
   pub handled : ℕ → ℕ  -- by processor: the turn up to which the home has handled its course

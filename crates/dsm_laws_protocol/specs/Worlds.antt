@@ -12,6 +12,7 @@ use Rattle.dsm_net.specs.Net.{Net}
 use Rattle.dsm_laws_protocol.specs.Courses.{moves_of}
 use Rattle.dsm_laws_protocol.specs.Situations.{Situation, IsLawful}
 
+-- the processors and channels, with what each has done and what each home has handled of it
 pub record World (S : Type 0) : Type 0 where
   pub processors : ℕ → Processor S
   pub channels : ℕ → ℕ → List Msg  -- by sender and receiver, the oldest first
@@ -35,10 +36,12 @@ grants_in lock (Body.Grant other mode turn version lines) =
     else []
 grants_in lock _ = []
 
+-- the grants of a lock that messages bring
 abbrev pub grants_said : ℕ → List Msg → List MailGrant
 grants_said lock [] = []
 grants_said lock (msg ∷ msgs) = grants_in lock msg.body ++ grants_said lock msgs
 
+-- those grants that are of a lock
 abbrev pub mail_for : ℕ → List MailGrant → List MailGrant
 mail_for lock grants = filter (λ grant. grant.lock.0 == lock) grants
 

@@ -18,6 +18,7 @@ abbrev pub is_of_other : ℕ → ℕ → Option Piece → Bool
 is_of_other bar p None = false
 is_of_other bar p (Some piece) = is_bar bar piece.object && not (piece.owner == p)
 
+-- the owner of a piece
 abbrev pub owner_of : Option Piece → ℕ
 owner_of None = 0
 owner_of (Some piece) = piece.owner

@@ -16,6 +16,7 @@ pub record OwnTurn : Type 0 where
   pub label : Label
   pub copy : ℕ → ℤ  -- by cell
 
+-- the labels of own turns
 abbrev pub own_labels : List OwnTurn → List Label
 own_labels turns = map (λ turn. turn.label) turns
 

@@ -3,10 +3,12 @@ use Rattle.std.specs.Prelude.{ℕ, Bool, false, ◌==◌, Option, Some, None}
 use Rattle.dsm_base.specs.declared.setup.Object.{Object}
 use Rattle.dsm_base.specs.declared.setup.Piece.{Piece}
 
+-- whether an object is this lock
 abbrev pub is_lock : ℕ → Object → Bool
 is_lock lock (Object.Lock other) = other.0 == lock
 is_lock lock (Object.Bar bar) = false
 
+-- whether an object is this barrier
 abbrev pub is_bar : ℕ → Object → Bool
 is_bar bar (Object.Lock lock) = false
 is_bar bar (Object.Bar other) = other.0 == bar

@@ -84,26 +84,28 @@ pub fn barrier_cells<T: Task>()
 /// its epoch, its copy is at each lock and barrier what it should be (`worth`), and so the
 /// processor agrees with the run (`agrees`).
 pub fn own_copies<T: Task>()
-    ensures worth { (setup : Setup) (first : ℕ → T.State) (run : List Turn) (p : ℕ) (turns : List OwnTurn) →
-        HasCopies setup first T.kind.semantics run p turns →
+    ensures worth { (setup : Setup) (first : ℕ → T.State) (run : List Turn) (p : ℕ)
+        (turns : List OwnTurn) → HasCopies setup first T.kind.semantics run p turns →
         CopyAgrees setup first T.kind.semantics run p (newest_copy turns) }
-    ensures agrees { (setup : Setup) (first : ℕ → T.State) (run : List Turn) (p : ℕ) (turns : List OwnTurn) →
-        HasCopies setup first T.kind.semantics run p turns →
+    ensures agrees { (setup : Setup) (first : ℕ → T.State) (run : List Turn) (p : ℕ)
+        (turns : List OwnTurn) → HasCopies setup first T.kind.semantics run p turns →
         AgreesWith setup first T.kind.semantics run p (own_labels turns) (newest_copy turns) }
 {}
 
 /// A processor's copies stay what they should be in a run that is like it, and with one turn more:
 /// another's, or an own one that makes of the copy what it should by the run before it.
 pub fn copies_go_on<T: Task>()
-    ensures alike { (setup : Setup) (first : ℕ → T.State) (run other : List Turn) (p : ℕ) (turns : List OwnTurn)
-        → HasCopies setup first T.kind.semantics run p turns →
+    ensures alike { (setup : Setup) (first : ℕ → T.State) (run other : List Turn) (p : ℕ)
+        (turns : List OwnTurn) → HasCopies setup first T.kind.semantics run p turns →
         IsRunLike setup first T.kind.semantics other run →
         HasCopies setup first T.kind.semantics other p turns }
-    ensures other { (setup : Setup) (first : ℕ → T.State) (run : List Turn) (p : ℕ) (turns : List OwnTurn) →
+    ensures other { (setup : Setup) (first : ℕ → T.State) (run : List Turn) (p : ℕ)
+        (turns : List OwnTurn) →
         HasCopies setup first T.kind.semantics run p turns → (turn : Turn) →
         IsPlainTurn setup T.kind.semantics (after_run first T.kind.semantics run) turn →
         turn.proc ≢ p → HasCopies setup first T.kind.semantics (turn ∷ run) p turns }
-    ensures own { (setup : Setup) (first : ℕ → T.State) (run : List Turn) (p : ℕ) (turns : List OwnTurn) →
+    ensures own { (setup : Setup) (first : ℕ → T.State) (run : List Turn) (p : ℕ)
+        (turns : List OwnTurn) →
         HasCopies setup first T.kind.semantics run p turns → (turn : Turn) →
         IsPlainTurn setup T.kind.semantics (after_run first T.kind.semantics run) turn →
         turn.proc ≡ p → (now : ℕ → ℤ) →
@@ -124,7 +126,8 @@ pub fn newer_lines<T: Task>()
         is_newer line_at setup first T.kind.semantics run lock from to (line_at cell) ≡ false →
         memory_at first T.kind.semantics run lock from cell ≡ memory_at first T.kind.semantics run
         lock to cell }
-    ensures later { (line_at : ℕ → ℕ) (setup : Setup) (first : ℕ → T.State) (turn : Turn) (before : List Turn)
+    ensures later { (line_at : ℕ → ℕ) (setup : Setup) (first : ℕ → T.State) (turn : Turn)
+        (before : List Turn)
         (lock from to line : ℕ) → to ≤ (after_run first T.kind.semantics before).versions lock →
         is_newer line_at setup first T.kind.semantics (turn ∷ before) lock from to line ≡ is_newer
         line_at setup first T.kind.semantics before lock from to line }
@@ -154,8 +157,8 @@ pub fn arrival_lines<T: Task>()
         is_stored_in line_at setup bar owner epoch (labels_of owner run) (line_at cell) ≡ false →
         stored_by (until_arrival bar (epoch + 1) (labels_of owner run)) cell ≡ stored_by
         (until_arrival bar epoch (labels_of owner run)) cell }
-    ensures cross { (line_at : ℕ → ℕ) (setup : Setup) (first : ℕ → T.State) (run : List Turn) (p : ℕ)
-        (turns : List OwnTurn) → HasCopies setup first T.kind.semantics run p turns →
+    ensures cross { (line_at : ℕ → ℕ) (setup : Setup) (first : ℕ → T.State) (run : List Turn)
+        (p : ℕ) (turns : List OwnTurn) → HasCopies setup first T.kind.semantics run p turns →
         (bar : Bar) (epoch : ℕ) →
         IsPlainTurn setup T.kind.semantics (after_run first T.kind.semantics run)
         (record { proc = p; label = Label.Cross bar (epoch + 1) }) → (now : ℕ → ℤ) →
@@ -187,21 +190,21 @@ pub fn no_clashes<T: Task>()
         q < setup.procs → p ≢ q → (one other : Label) →
         plain_turn setup T.kind.semantics s p ≡ Some one →
         plain_turn setup T.kind.semantics s q ≡ Some other → clashes one other ≡ false }
-    ensures in_turn { (setup : Setup) (first : ℕ → T.State) (before : List Turn) (earlier later : Turn) →
-        AreNeighbours setup first T.kind.semantics before earlier later →
+    ensures in_turn { (setup : Setup) (first : ℕ → T.State) (before : List Turn)
+        (earlier later : Turn) → AreNeighbours setup first T.kind.semantics before earlier later →
         clashes earlier.label later.label ≡ false }
 {}
 
 /// Two neighbouring turns of different processors may change places where the later one doesn't
 /// rest on the earlier one, and only there.
 pub fn change_places<T: Task>()
-    ensures free { (setup : Setup) (first : ℕ → T.State) (before : List Turn) (earlier later : Turn) →
-        AreNeighbours setup first T.kind.semantics before earlier later →
+    ensures free { (setup : Setup) (first : ℕ → T.State) (before : List Turn) (earlier later : Turn)
+        → AreNeighbours setup first T.kind.semantics before earlier later →
         IsFree first T.kind.semantics before earlier later →
         IsRunLike setup first T.kind.semantics (earlier ∷ later ∷ before)
         (later ∷ earlier ∷ before) }
-    ensures bound { (setup : Setup) (first : ℕ → T.State) (before : List Turn) (earlier later : Turn) →
-        earlier.proc ≢ later.proc →
+    ensures bound { (setup : Setup) (first : ℕ → T.State) (before : List Turn)
+        (earlier later : Turn) → earlier.proc ≢ later.proc →
         IsPlainRun setup first T.kind.semantics (earlier ∷ later ∷ before) →
         IsFree first T.kind.semantics before earlier later }
 {}

@@ -19,14 +19,16 @@ use dsm_base::Task;
 /// Where tails are independent over settled turns, and one order of them after these is a plain
 /// run, every order is one and leaves the same.
 pub fn any_order<T: Task>()
-    ensures tails { (setup : Setup) (first : ℕ → T.State) (settled : List Turn) (tails : ℕ → List Label)
-        (turns others : List Turn) →
+    ensures tails { (setup : Setup) (first : ℕ → T.State) (settled : List Turn)
+        (tails : ℕ → List Label) (turns others : List Turn) →
         CanShuffle setup first T.kind.semantics settled tails turns → IsShuffle tails others →
         IsRunLike setup first T.kind.semantics (others ++ settled) (turns ++ settled) }
-    ensures history { (setup : Setup) (first : ℕ → T.State) (settled : List Turn) (tails : ℕ → List Label)
+    ensures history { (setup : Setup) (first : ℕ → T.State) (settled : List Turn)
+        (tails : ℕ → List Label)
         (turns : List Turn) → CanShuffle setup first T.kind.semantics settled tails turns →
         IsHistoryLike setup first T.kind.semantics settled tails (turns ++ settled) }
-    ensures whole { (setup : Setup) (first : ℕ → T.State) (settled : List Turn) (tails : ℕ → List Label) →
+    ensures whole { (setup : Setup) (first : ℕ → T.State) (settled : List Turn)
+        (tails : ℕ → List Label) →
         IsHistory setup first T.kind.semantics settled tails → (turns : List Turn) →
         IsShuffle tails turns →
         IsRunLike setup first T.kind.semantics (turns ++ settled) (whole_of setup settled tails) }
@@ -41,21 +43,24 @@ pub fn independent()
 /// Any tail of a history may come last or first, so the settled turns with it alone are a plain
 /// run, which has the versions that are made in it as the whole history has them.
 pub fn one_tail<T: Task>()
-    ensures last { (setup : Setup) (first : ℕ → T.State) (settled : List Turn) (tails : ℕ → List Label) →
+    ensures last { (setup : Setup) (first : ℕ → T.State) (settled : List Turn)
+        (tails : ℕ → List Label) →
         IsHistory setup first T.kind.semantics settled tails → (p : ℕ) (others : ℕ → List Label) →
         AreWith tails p [] others →
         IsRunLike setup first T.kind.semantics
         (turns_by p (tails p) ++ whole_of setup settled others) (whole_of setup settled tails) }
-    ensures first { (setup : Setup) (first : ℕ → T.State) (settled : List Turn) (tails : ℕ → List Label) →
+    ensures first { (setup : Setup) (first : ℕ → T.State) (settled : List Turn)
+        (tails : ℕ → List Label) →
         IsHistory setup first T.kind.semantics settled tails → (p : ℕ) (others : ℕ → List Label) →
         AreWith tails p [] others →
         IsRunLike setup first T.kind.semantics
         (whole_of setup (turns_by p (tails p) ++ settled) others)
         (whole_of setup settled tails) }
-    ensures alone { (setup : Setup) (first : ℕ → T.State) (settled : List Turn) (tails : ℕ → List Label) →
-        IsHistory setup first T.kind.semantics settled tails → (p : ℕ) →
+    ensures alone { (setup : Setup) (first : ℕ → T.State) (settled : List Turn)
+        (tails : ℕ → List Label) → IsHistory setup first T.kind.semantics settled tails → (p : ℕ) →
         IsPlainRun setup first T.kind.semantics (turns_by p (tails p) ++ settled) }
-    ensures versions { (setup : Setup) (first : ℕ → T.State) (settled : List Turn) (tails : ℕ → List Label) →
+    ensures versions { (setup : Setup) (first : ℕ → T.State) (settled : List Turn)
+        (tails : ℕ → List Label) →
         IsHistory setup first T.kind.semantics settled tails → (p lock version : ℕ) →
         version ≤ (after_run first T.kind.semantics (turns_by p (tails p) ++ settled)).versions lock
         →
@@ -81,8 +86,8 @@ pub fn history_goes_on<T: Task>()
     ensures starts { (setup : Setup) (first : ℕ → T.State) →
         AllAskFirst setup first T.kind.semantics →
         IsHistory setup first T.kind.semantics [] (λ p. []) }
-    ensures goes_on { (setup : Setup) (first : ℕ → T.State) (settled : List Turn) (tails : ℕ → List Label) →
-        IsHistory setup first T.kind.semantics settled tails →
+    ensures goes_on { (setup : Setup) (first : ℕ → T.State) (settled : List Turn)
+        (tails : ℕ → List Label) → IsHistory setup first T.kind.semantics settled tails →
         (p : ℕ) (label : Label) (others : ℕ → List Label) →
         AreWith tails p (label ∷ tails p) others →
         IsPlainTurn setup T.kind.semantics
@@ -90,24 +95,27 @@ pub fn history_goes_on<T: Task>()
         (record { proc = p; label = label }) → AreIndependent setup settled others →
         IsHistoryLike setup first T.kind.semantics settled others
         (record { proc = p; label = label } ∷ whole_of setup settled tails) }
-    ensures settles { (setup : Setup) (first : ℕ → T.State) (settled : List Turn) (tails : ℕ → List Label) →
+    ensures settles { (setup : Setup) (first : ℕ → T.State) (settled : List Turn)
+        (tails : ℕ → List Label) →
         IsHistory setup first T.kind.semantics settled tails → (p k : ℕ) (others : ℕ → List Label) →
         AreWith tails p (past k (tails p)) others →
         IsHistoryLike setup first T.kind.semantics (turns_by p (upto k (tails p)) ++ settled)
         others (whole_of setup settled tails) }
-    ensures loses { (setup : Setup) (first : ℕ → T.State) (settled : List Turn) (tails : ℕ → List Label) →
+    ensures loses { (setup : Setup) (first : ℕ → T.State) (settled : List Turn)
+        (tails : ℕ → List Label) →
         IsHistory setup first T.kind.semantics settled tails → (p k : ℕ) (others : ℕ → List Label) →
         AreWith tails p (upto k (tails p)) others →
         IsHistory setup first T.kind.semantics settled others }
-    ensures versions_left { (setup : Setup) (first : ℕ → T.State) (settled : List Turn) (tails : ℕ → List Label) →
+    ensures versions_left { (setup : Setup) (first : ℕ → T.State) (settled : List Turn)
+        (tails : ℕ → List Label) →
         IsHistory setup first T.kind.semantics settled tails → (p k : ℕ) (others : ℕ → List Label) →
         AreWith tails p (upto k (tails p)) others → (lock version : ℕ) →
         version ≤ (after_run first T.kind.semantics (whole_of setup settled others)).versions lock →
         SameAt setup lock
         (memory_at first T.kind.semantics (whole_of setup settled others) lock version)
         (memory_at first T.kind.semantics (whole_of setup settled tails) lock version) }
-    ensures course { (setup : Setup) (first : ℕ → T.State) (settled : List Turn) (tails : ℕ → List Label) →
-        IsHistory setup first T.kind.semantics settled tails → (p : ℕ) →
+    ensures course { (setup : Setup) (first : ℕ → T.State) (settled : List Turn)
+        (tails : ℕ → List Label) → IsHistory setup first T.kind.semantics settled tails → (p : ℕ) →
         labels_of p (whole_of setup settled tails) ≡ tails p ++ labels_of p settled }
 {}
 
@@ -115,12 +123,14 @@ pub fn history_goes_on<T: Task>()
 /// the copies of the one that loses them up to there. (Where a history goes on or turns settle,
 /// `copies_go_on` says so.)
 pub fn copies_left<T: Task>()
-    ensures others { (setup : Setup) (first : ℕ → T.State) (settled : List Turn) (tails : ℕ → List Label) →
+    ensures others { (setup : Setup) (first : ℕ → T.State) (settled : List Turn)
+        (tails : ℕ → List Label) →
         IsHistory setup first T.kind.semantics settled tails → (p k : ℕ) (others : ℕ → List Label) →
         AreWith tails p (upto k (tails p)) others → (q : ℕ) → p ≢ q → (turns : List OwnTurn) →
         HasCopies setup first T.kind.semantics (whole_of setup settled tails) q turns →
         HasCopies setup first T.kind.semantics (whole_of setup settled others) q turns }
-    ensures own { (setup : Setup) (first : ℕ → T.State) (settled : List Turn) (tails : ℕ → List Label) →
+    ensures own { (setup : Setup) (first : ℕ → T.State) (settled : List Turn)
+        (tails : ℕ → List Label) →
         IsHistory setup first T.kind.semantics settled tails → (p k : ℕ) (others : ℕ → List Label) →
         AreWith tails p (upto k (tails p)) others → (newest oldest : List OwnTurn) →
         length newest ≡ length (past k (tails p)) →
@@ -132,8 +142,10 @@ pub fn copies_left<T: Task>()
 /// which each processor makes the same turns. Once the later version is made it is the same with
 /// one tail alone, and where turns are lost.
 pub fn newer_alike<T: Task>()
-    ensures alike { (line_at : ℕ → ℕ) (setup : Setup) (first : ℕ → T.State) (run other : List Turn) →
-        IsPlainRun setup first T.kind.semantics run → IsPlainRun setup first T.kind.semantics other →
+    ensures alike { (line_at : ℕ → ℕ) (setup : Setup) (first : ℕ → T.State) (run other : List Turn)
+        →
+        IsPlainRun setup first T.kind.semantics run →
+        IsPlainRun setup first T.kind.semantics other →
         ((p : ℕ) → labels_of p run ≡ labels_of p other) → (lock from to line : ℕ) →
         is_newer line_at setup first T.kind.semantics run lock from to line ≡ is_newer line_at setup
         first T.kind.semantics other lock from to line }

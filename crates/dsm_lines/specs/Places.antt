@@ -25,6 +25,7 @@ place_from start (piece ∷ others) cell =
     then Some (record { piece = piece; line = start + (cell - piece.first.0) / 8; at = (cell - piece.first.0) % 8 })
     else place_from (start + line_count piece) others cell
 
+-- where a cell stands, if it is in a piece
 abbrev pub place_of : List Piece → ℕ → Option Place
 place_of pieces cell = place_from 0 pieces cell
 
@@ -44,6 +45,7 @@ cells_in (piece ∷ others) line =
     then range_with_len (piece.first.0 + 8 * line) (min 8 (piece.count - 8 * line))
     else cells_in others (line - line_count piece)
 
+-- whether two objects are the same lock or the same barrier
 abbrev pub same_object : Object → Object → Bool
 same_object (Object.Lock lock) (Object.Lock other) = lock.0 == other.0
 same_object (Object.Lock lock) (Object.Bar bar) = false
@@ -72,5 +74,6 @@ lines_from start (piece ∷ others) object =
     (if same_object piece.object object then range_with_len start (line_count piece) else [])
     ++ lines_from (start + line_count piece) others object
 
+-- the lines of an object, rising
 abbrev pub lines_of : List Piece → Object → List ℕ
 lines_of pieces object = lines_from 0 pieces object

@@ -12,9 +12,11 @@ pub record Field : Type 0 where
   pub holds : Bool
   pub keeps : Bool
 
+-- whether a field keeps its range and its order
 abbrev pub is_fit : Field → Bool
 is_fit field = field.holds && field.keeps
 
+-- whether each of these fields does
 abbrev pub are_fit : List Field → Bool
 are_fit fields = list_all is_fit fields
 

@@ -47,6 +47,7 @@ Fails errors.Memory read = Unit {0}
 Fails errors.Short read = read ≡ Err Cut
 Fails (errors.Broken left) read = read ≡ Err (Broken left)
 
+-- a result in the code is this reading, as it is seen
 abbrev pub Gives : {A B : Type 0} → (A → B × List ℕ) → Result A FieldErr → Read B → Type 0
 Gives view (Ok x) read = read ≡ Ok (view x)
 Gives view (Err error) read = Fails error read
@@ -111,6 +112,7 @@ pending_at last bytes =
     then_with (kept (λ text. list_all is_printable text) (text_at count) bytes) (λ text bytes.
     Ok (record { turn = turn; text = text }, bytes))))
 
+-- a value of a line
 abbrev pub value_at : Option ℤ → List ℕ → Read ℤ
 value_at last bytes = signed_at bytes
 

@@ -27,14 +27,17 @@ use Rattle.dsm_msg.specs.Fields.{Field, byte, number, signed, is_over, entries, 
 abbrev pub Layer : Type 0
 Layer = layer.Body-F Body TurnBody
 
+-- a mode in one byte
 abbrev pub mode_number : Mode → ℕ
 mode_number Shared = 0
 mode_number Excl = 1
 
+-- yes or no in one byte
 abbrev pub bool_number : Bool → ℕ
 bool_number false = 0
 bool_number true = 1
 
+-- bytes from the space to the tilde
 abbrev pub is_printable : ℕ → Bool
 is_printable byte = nat_le 32 byte && nat_le byte 126
 
@@ -42,6 +45,7 @@ is_printable byte = nat_le 32 byte && nat_le byte 126
 abbrev pub text : List ℕ → Field
 text bytes = record { bytes = bytes; holds = true; keeps = list_all is_printable bytes }
 
+-- a record of a take: its turn over that of the one before, lock and version
 abbrev pub record_fields : Option Record → Record → List Field
 record_fields last item =
     number 4 item.turn (is_over (option_map (λ r. r.turn) last) item.turn)
@@ -49,6 +53,7 @@ record_fields last item =
     ∷ number 4 item.version true
     ∷ []
 
+-- a printed line: its turn over that of the one before, and at most 256 bytes of text
 abbrev pub pending_fields : Option PendingLine → PendingLine → List Field
 pending_fields last item =
     number 4 item.turn (is_over (option_map (λ r. r.turn) last) item.turn)
@@ -56,6 +61,7 @@ pending_fields last item =
     ∷ text item.text
     ∷ []
 
+-- a value of a line
 abbrev pub value_fields : Option ℤ → ℤ → List Field
 value_fields last value = signed value ∷ []
 
@@ -66,6 +72,7 @@ line_fields last item =
     ∷ byte (length item.values) (nat_le 1 (length item.values) && nat_le (length item.values) 8)
     ∷ entries value_fields None item.values
 
+-- a grant that was logged: its turn over that of the one before
 abbrev pub grant_fields : Option LoggedGrant → LoggedGrant → List Field
 grant_fields last item =
     number 4 item.turn (is_over (option_map (λ r. r.turn) last) item.turn)
@@ -74,6 +81,7 @@ grant_fields last item =
     ∷ number 4 item.version true
     ∷ []
 
+-- an opening that was logged: its turn over that of the one before
 abbrev pub opening_fields : Option LoggedOpening → LoggedOpening → List Field
 opening_fields last item =
     number 4 item.turn (is_over (option_map (λ r. r.turn) last) item.turn)
@@ -91,18 +99,22 @@ abbrev pub is_second_over : Option (ℕ × ℕ) → ℕ → ℕ → Bool
 is_second_over None first second = true
 is_second_over (Some last) first second = nat_lt last.0 first || nat_lt last.1 second
 
+-- versions are in the order of their locks and numbers
 abbrev pub version_place : Version → ℕ × ℕ
 version_place item = (item.lock.0, item.version)
 
+-- arrivals are in the order of their barriers and epochs
 abbrev pub arrival_place : Arrival → ℕ × ℕ
 arrival_place item = (item.bar.0, item.epoch)
 
+-- a version of a lock with its lines, over the version before it
 abbrev pub version_fields : Option Version → Version → List Field
 version_fields last item =
     number 2 item.lock.0 (is_from (option_map version_place last) item.lock.0)
     ∷ number 4 item.version (is_second_over (option_map version_place last) item.lock.0 item.version)
     ∷ counted line_fields item.lines
 
+-- an arrival at a barrier with its lines, over the arrival before it
 abbrev pub arrival_fields : Option Arrival → Arrival → List Field
 arrival_fields last item =
     byte item.bar.0 (is_from (option_map arrival_place last) item.bar.0)
@@ -119,6 +131,7 @@ lock_stand_fields last item =
     ∷ number 4 item.have true
     ∷ []
 
+-- how a barrier stands with one processor, over the barrier before it
 abbrev pub bar_stand_fields : Option BarStand → BarStand → List Field
 bar_stand_fields last item =
     byte item.bar.0 (is_over (option_map (λ s. s.bar.0) last) item.bar.0)
@@ -126,12 +139,15 @@ bar_stand_fields last item =
     ∷ number 4 item.openings true
     ∷ []
 
+-- a number by lock, over the lock before it
 abbrev pub lock_number_fields : Option LockNumber → LockNumber → List Field
 lock_number_fields last item = number 2 item.lock.0 (is_over (option_map (λ s. s.lock.0) last) item.lock.0) ∷ number 4 item.number true ∷ []
 
+-- a number by barrier, over the barrier before it
 abbrev pub bar_number_fields : Option BarNumber → BarNumber → List Field
 bar_number_fields last item = byte item.bar.0 (is_over (option_map (λ s. s.bar.0) last) item.bar.0) ∷ number 4 item.number true ∷ []
 
+-- the kinds of body, numbered
 abbrev pub kind_of_layer : Layer → ℕ
 kind_of_layer (layer.Req lock mode have) = 1
 kind_of_layer (layer.Grant lock mode turn version lines) = 2
@@ -144,6 +160,7 @@ kind_of_layer (layer.Resync bodies) = 8
 kind_of_layer (layer.Report report) = 9
 kind_of_layer (layer.Pruned turn versions crossings) = 10
 
+-- the number of a kind of body
 abbrev pub kind_of : Body → ℕ
 kind_of body = kind_of_layer (out-Body body)
 
@@ -172,12 +189,14 @@ asking_fields (layer.Release lock mode version lines) =
 asking_fields (layer.Arrive bar epoch lines) = byte bar.0 true ∷ number 4 epoch true ∷ counted line_fields lines
 asking_fields other = []
 
+-- a body that is brought again: its turn over that of the one before, and its kind, which asks for something
 abbrev pub turn_body_fields : Option TurnBody → TurnBody → List Field
 turn_body_fields last item =
     number 4 item.turn (is_over (option_map (λ b. b.turn) last) item.turn)
     ∷ byte (kind_of item.body) (is_asking (kind_of item.body))
     ∷ asking_fields (out-Body item.body)
 
+-- a report: its lists, each with its count
 abbrev pub report_fields : Report → List Field
 report_fields report =
     counted grant_fields report.grants
@@ -188,6 +207,7 @@ report_fields report =
     ++ (counted lock_stand_fields report.locks
     ++ counted bar_stand_fields report.bars)))))
 
+-- a body, by its kind
 abbrev pub layer_fields : Layer → List Field
 layer_fields (layer.Grant lock mode turn version lines) =
     number 2 lock.0 true ∷ byte (mode_number mode) true ∷ number 4 turn true ∷ number 4 version true ∷ counted line_fields lines
@@ -198,9 +218,11 @@ layer_fields (layer.Pruned turn versions crossings) =
     number 4 turn true ∷ (counted lock_number_fields versions ++ counted bar_number_fields crossings)
 layer_fields asking = asking_fields asking
 
+-- a body behind its kind
 abbrev pub body_fields : Body → List Field
 body_fields body = layer_fields (out-Body body)
 
+-- what each message carries: turns made and seen, records, printed lines
 abbrev pub carry_fields : Carry → List Field
 carry_fields carry =
     number 4 carry.turn true ∷ number 4 carry.seen true ∷ (counted record_fields carry.records ++ counted pending_fields carry.lines)
@@ -213,6 +235,7 @@ is_proc number = nat_lt number 16
 abbrev pub is_other : ℕ → ℕ → Bool
 is_other from number = nat_lt number 16 && not (number == from)
 
+-- a message: its kind, from whom, to another whom, what it carries, and its body
 abbrev pub message_fields : Msg → List Field
 message_fields msg =
     byte (kind_of msg.body) true

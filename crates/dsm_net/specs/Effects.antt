@@ -31,6 +31,7 @@ pub record Effect (S : Type 0) : Type 0 where
   pub outs : List PendingLine  -- own lines go out
   pub note : Option Msg
 
+-- a processor and what it sends, and nothing else
 abbrev pub only : {S : Type 0} → Processor S → List Msg → Effect S
 only s sends = record {
   processor = s;
@@ -50,6 +51,7 @@ may_bring Mode.Shared [] = true
 may_bring Mode.Shared (line ∷ lines) = false
 may_bring Mode.Excl lines = true
 
+-- whether a hold is one in this mode
 abbrev pub is_mode : Mode → Option Mode → Bool
 is_mode mode None = false
 is_mode Mode.Shared (Some Mode.Shared) = true
@@ -90,9 +92,11 @@ with_version pieces home version lines = record {
   values = overlaid pieces home.values lines;
 }
 
+-- the last body of a processor that counted was of this turn
 abbrev pub with_last : {S : Type 0} → Processor S → ℕ → ℕ → Processor S
 with_last s from turn = record s { peers = update s.peers from (record (s.peers from) { last = turn }) }
 
+-- with another state of a lock
 abbrev pub with_lock : {S : Type 0} → Processor S → Lock → LockState → Processor S
 with_lock s lock state = record s { locks = update s.locks lock.0 state }
 
@@ -101,6 +105,7 @@ abbrev pub with_request : {S : Type 0} → Processor S → ℕ → ℕ → Lock 
 with_request s from turn lock mode «have» =
     with_lock (with_last s from turn) lock (lock_with_request (s.locks lock.0) (waiting_of from turn mode «have»))
 
+-- a release has come: the holder is gone, and the lines are those of the new version
 abbrev pub with_release : {S : Type 0} → Setup → Processor S → ℕ → ℕ → Lock → Mode → ℕ → List Line → Processor S
 with_release setup s from turn lock mode version lines = record (with_lock (with_last s from turn) lock
     (lock_after_release (s.locks lock.0) from mode)) { lines = with_version setup.bindings s.lines version lines }
@@ -158,6 +163,7 @@ effect_of_telling_to setup p s body (Some keeper) =
     then effect_of_body setup p s p s.own.turns body
     else only s (message p s keeper body ∷ [])
 
+-- what a processor does with what its turn tells, if anything: it handles it, or sends it to whom it is for
 abbrev pub effect_of_telling : {S : Type 0} → Setup → ℕ → Processor S → Option Body → Effect S
 effect_of_telling setup p s None = only s []
 effect_of_telling setup p s (Some body) = effect_of_telling_to setup p s body (keeper_of setup body)

@@ -23,6 +23,7 @@ abbrev pub with_unit : ℕ → List Rec → List Group → List Group
 with_unit number [] before = before
 with_unit number (one ∷ others) before = record { unit = number; records = one ∷ others } ∷ before
 
+-- a run with one unit more
 abbrev pub ran_after : {S : Type 0} → Ran S → ℕ → Made S → Ran S
 ran_after ran number unit = record { net = unit.net; groups = with_unit number unit.records ran.groups }
 
@@ -33,6 +34,7 @@ run_of setup first threads (done ∷ before) =
     let ran = run_of setup first threads before in
     ran_after ran (length before + 1) (unit_of setup threads ran.net done.act done.outcome)
 
+-- the acts of what was done
 abbrev pub acts_of : List Done → List Act
 acts_of done = map (λ one. one.act) done
 

@@ -28,6 +28,7 @@ grant_message setup me s lock one =
     message me s one.proc.0
     (Body.Grant lock one.mode one.turn (s.locks lock.0).version (newer_lines setup.bindings s.lines.stamps s.lines.values lock one.«have»))
 
+-- whether a request is of this processor
 abbrev pub is_of : ℕ → Waiting → Bool
 is_of p one = one.proc.0 == p
 

@@ -19,9 +19,11 @@ is_grant_for turn lock grant = (grant.turn == turn) && (grant.lock.0 == lock)
 abbrev pub is_opening_of : ℕ → ℕ → MailOpening → Bool
 is_opening_of bar epoch opening = (opening.bar.0 == bar) && (opening.epoch == epoch)
 
+-- what a grant gives a take
 abbrev pub input_of_grant : MailGrant → Input
 input_of_grant grant = record { number = grant.version; lines = grant.lines }
 
+-- what an opening gives a crossing
 abbrev pub input_of_opening : MailOpening → Input
 input_of_opening opening = record { number = opening.epoch; lines = opening.lines }
 

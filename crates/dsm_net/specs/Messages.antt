@@ -8,6 +8,7 @@ use Rattle.dsm_msg.specs.declared.message.Carry.{Carry}
 use Rattle.dsm_msg.specs.declared.message.Msg.{Msg}
 use Rattle.dsm_net.specs.Processor.{Processor, Peer}
 
+-- a processor by its number
 abbrev pub processor_named : ℕ → Proc
 processor_named p = record { 0 = p }
 
@@ -35,6 +36,7 @@ carry_of s to = record {
   lines = s.tail.lines;
 }
 
+-- a message of a processor as it stands, with this body
 abbrev pub message : {S : Type 0} → ℕ → Processor S → ℕ → Body → Msg
 message me s to body = record {
   from = processor_named me;

@@ -14,6 +14,7 @@ pub record Images (S : Type 0) : Type 0 where
   pub marked : Option (Processor S)
   pub begun : Option (Begun S)
 
+-- all there is: the processors, what is under way between them, what came out, and the images
 pub record Net (S : Type 0) : Type 0 where
   pub processors : ℕ → Option (Processor S)  -- none where it is down
   pub channels : ℕ → ℕ → List Letter  -- by sender and receiver, the oldest first
@@ -21,6 +22,7 @@ pub record Net (S : Type 0) : Type 0 where
   pub out : ℕ → ℕ  -- by processor: the turn of its last line out
   pub images : ℕ → Images S
 
+-- before the first unit
 abbrev pub start_net : {S : Type 0} → (ℕ → S) → Net S
 start_net first = record {
   processors = λ p. Some (start_processor (first p));

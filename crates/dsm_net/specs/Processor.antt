@@ -78,6 +78,7 @@ pub data Standing : Type 0 where
   gathering : (reports : ℕ → Option Report) (kept : List Kept) → Standing
   replaying : (bound : ℕ) (reports : ℕ → Option Report) (kept : List Kept) → Standing
 
+-- all that a processor has
 pub record Processor (S : Type 0) : Type 0 where
   pub own : Own S
   pub mail : Mail
@@ -103,6 +104,7 @@ start_own thread = record {
   ending = None;
 }
 
+-- before its first turn
 abbrev pub start_processor : {S : Type 0} → S → Processor S
 start_processor thread = record {
   own = start_own thread;

@@ -38,5 +38,6 @@ abbrev pub own_of : {S : Type 0} → Setup → Semantics S → S → List OwnTur
 own_of setup threads first [] = start_own first
 own_of setup threads first (turn ∷ before) = own_after setup threads (own_of setup threads first before) turn
 
+-- the labels of turns
 abbrev pub labels_of_turns : List OwnTurn → List Label
 labels_of_turns turns = map (λ turn. turn.label) turns

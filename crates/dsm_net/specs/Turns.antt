@@ -56,6 +56,7 @@ own_versions_after versions held (Label.Give lock) =
     if is_exclusive (held lock.0) then update versions lock.0 (versions lock.0 + 1) else versions
 own_versions_after versions held _ = versions
 
+-- what is a processor's own after its turn
 abbrev pub own_after : {S : Type 0} → Setup → Semantics S → Own S → OwnTurn → Own S
 own_after setup threads own turn = record {
   thread = threads.after own.thread turn.label;

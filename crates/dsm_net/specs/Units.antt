@@ -25,6 +25,7 @@ pub record Made (S : Type 0) : Type 0 where
   pub net : Net S
   pub records : List Rec
 
+-- nothing was done
 abbrev pub unchanged : {S : Type 0} → Net S → Made S
 unchanged net = record { net = net; records = [] }
 
@@ -48,9 +49,11 @@ with_message_to unit msg None =
 with_message_to unit msg (Some receiver) =
     then_made unit (with_letter unit.net msg) (Rec.Sent (unit.net.sent + 1) msg ∷ [])
 
+-- with a message put into its channel, or lost where its receiver is down
 abbrev pub with_message : {S : Type 0} → Made S → Msg → Made S
 with_message unit msg = with_message_to unit msg (unit.net.processors msg.to.0)
 
+-- with messages, one after another
 abbrev pub with_messages : {S : Type 0} → Made S → List Msg → Made S
 with_messages unit [] = unit
 with_messages unit (msg ∷ others) = with_messages (with_message unit msg) others
@@ -63,14 +66,17 @@ with_line_out unit p line =
     (Rec.Out (processor_named p) line.turn line.text ∷ [])
     else unit
 
+-- with printed lines put out, one after another
 abbrev pub with_lines_out : {S : Type 0} → Made S → ℕ → List PendingLine → Made S
 with_lines_out unit p [] = unit
 with_lines_out unit p (line ∷ lines) = with_lines_out (with_line_out unit p line) p lines
 
+-- with another state of a processor
 abbrev pub with_processor : {S : Type 0} → Made S → ℕ → Processor S → Made S
 with_processor unit p s =
     then_made unit (record unit.net { processors = update unit.net.processors p (Some s) }) []
 
+-- with a note put into its channel, if there is one
 abbrev pub with_note : {S : Type 0} → Made S → Option Msg → Made S
 with_note unit None = unit
 with_note unit (Some note) = with_message unit note
@@ -99,6 +105,7 @@ step_with setup threads net p s (Some turn) =
       records = Rec.Turn (processor_named p) (s.own.turns + 1) turn.label turn.lines ∷ [];
     } p p (effect_of_turn setup threads p s turn)
 
+-- a step of a processor, which does nothing where it is down
 abbrev pub step_of : {S : Type 0} → Setup → Semantics S → Net S → ℕ → Option (Processor S) → Made S
 step_of setup threads net p None = unchanged net
 step_of setup threads net p (Some s) = step_with setup threads net p s (own_turn setup threads p s)

@@ -8,6 +8,7 @@ use Rattle.dsm_sched.specs.Words.{Row, rows_of, number_of}
 
 -- one after the other, unless the first is refused
 infixl 10 ◌>>=◌
+-- one reading and then another; the first refusal stands
 abbrev pub ◌>>=◌ : {A B : Type 0} → Result A SchedErr → (A → Result B SchedErr) → Result B SchedErr
 (Ok a) >>= more = more a
 (Err refusal) >>= more = Err refusal

@@ -3,6 +3,7 @@ use Rattle.std.specs.Prelude.{ℕ, ◌+◌, List, [], ◌∷◌, Option, Some, N
 use Rattle.dsm_check.specs.Resolved as r
 use Rattle.dsm_semantics.specs.States.{Loop, Item, evaluate, evaluate_all, and_then, or_else, choose, execute, run, declare, branch, round, decide, third_part, gather}
 
+-- how many steps without a label a place or an expression can still take
 abbrev mutual
   -- of what is loaded or stored to
   pub location_weight : r.Location → ℕ
@@ -58,6 +59,7 @@ lock_weight (r.lock_element array index line) = expression_weight index + 1
 abbrev pub round_weight : ℕ → ℕ → ℕ → ℕ
 round_weight test step body = test + step + body + 5
 
+-- the same of a statement, and of many
 abbrev mutual
   -- of a statement
   pub statement_weight : r.Statement → ℕ

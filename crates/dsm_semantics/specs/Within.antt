@@ -38,6 +38,7 @@ abbrev pub IsArrayWithin : Extent → Sharing → Array → Type 0
 IsArrayWithin extent Sharing.Shared array = IsArrayBelow extent.cells array
 IsArrayWithin extent Sharing.Private array = Unit {0}
 
+-- a place or an expression names only what there is
 abbrev mutual
   -- of a location
   pub IsLocationWithin : Extent → r.Location → Type 0
@@ -101,6 +102,7 @@ abbrev pub IsLockWithin : Extent → r.LockPlace → Type 0
 IsLockWithin extent (r.one_lock lock line) = lock.0 < extent.locks
 IsLockWithin extent (r.lock_element array index line) = IsArrayBelow extent.locks array × IsWithin extent index
 
+-- the same of a statement, and of many
 abbrev mutual
   -- of a statement
   pub IsStatementWithin : Extent → r.Statement → Type 0

@@ -13,6 +13,7 @@ abbrev pub height_option : {A : Type 0} → (A → ℕ) → Option A → ℕ
 height_option height None = 0
 height_option height (Some a) = height a
 
+-- how high the tree of a place or an expression is
 abbrev mutual
   pub height_place : Place → ℕ
   height_place (single name) = 1
@@ -49,6 +50,7 @@ height_start start_nothing = 0
 height_start (start_variables all) = highest height_variable all
 height_start (start_expression e) = height e
 
+-- how high the tree of a statement is, or of many
 abbrev mutual
   pub height_statement : Statement → ℕ
   height_statement (block body) = height_statements body + 1

@@ -40,6 +40,7 @@ is_sound_kind (TokenKind.Sign sign) = true
 abbrev pub are_sound : List Token → Bool
 are_sound tokens = all_are (λ token. is_sound_kind token.kind) tokens
 
+-- whether a place or an expression has only what a text can spell
 abbrev mutual
   pub is_sound_place : Place → Bool
   is_sound_place (single name) = true
@@ -76,6 +77,7 @@ is_sound_start start_nothing = true
 is_sound_start (start_variables all) = all_are is_sound_variable all
 is_sound_start (start_expression e) = is_sound e
 
+-- the same of a statement, and of many
 abbrev mutual
   pub is_sound_statement : Statement → Bool
   is_sound_statement (block body) = are_sound_statements body

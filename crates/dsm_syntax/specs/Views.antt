@@ -19,6 +19,7 @@ use Rattle.dsm_syntax.specs.declared.tree.Item.{Item}
 use Rattle.dsm_syntax.specs.declared.tree.Item.TheVariants as i
 use Rattle.dsm_syntax.specs.Tree as t
 
+-- expressions and places, without what the code keeps beside them
 abbrev mutual
   pub view : Expression → t.Expression
   view (Number n) = t.number n
@@ -69,6 +70,7 @@ view_start start.Nothing = t.start_nothing
 view_start (start.Variables variables) = t.start_variables (map view_variable variables.items)
 view_start (start.Expression x) = t.start_expression (view x)
 
+-- statements, one and many
 abbrev mutual
   pub view_statement : Statement → t.Statement
   view_statement (Block' n statements) = t.block (view_statement_row statements)

@@ -8,6 +8,7 @@ use Rattle.dsm_base.specs.Threads.{Semantics, Kind}
 use Rattle.dsm_test_processors.specs.declared.thread.Place.{Place}
 use Rattle.dsm_test_processors.specs.declared.thread.Thread.{Thread}
 
+-- where the thread stands after a label
 abbrev pub next_place : Place → Place
 next_place Place.Asking = Place.Taking
 next_place Place.Taking = Place.Loading
@@ -18,6 +19,7 @@ next_place Place.Giving = Place.Ending
 next_place Place.Ending = Place.Over
 next_place Place.Over = Place.Over
 
+-- what the thread wants at a place
 abbrev pub want_at : Place → Want
 want_at Place.Asking = Want.Ask record { 0 = 0 } Mode.Excl 1
 want_at Place.Taking = Want.Take record { 0 = 0 } Mode.Excl
@@ -28,6 +30,7 @@ want_at Place.Giving = Want.Give record { 0 = 0 } 5
 want_at Place.Ending = Want.End
 want_at Place.Over = Want.Over
 
+-- the thread after a label: it keeps what it loaded
 abbrev pub after_label : Thread → Label → Thread
 after_label thread (Label.Load cell value) = record thread { place = next_place thread.place; loaded = value }
 after_label thread Label.End = record thread { place = Place.Over }
