@@ -1,4 +1,3 @@
-pub mod Values
 pub mod Tops
 pub mod Moves
 pub mod Lines

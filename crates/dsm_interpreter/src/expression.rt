@@ -3,7 +3,8 @@
 ghost use Rattle.std.specs.Prelude.{◌≡◌, [], None, OnOk, IfOk};
 ghost use Rattle.dsm_check.specs.Views.{view, view_location, views};
 ghost use Rattle.dsm_semantics.specs.States.{and_then, or_else, to_truth, choose, top, below};
-ghost use Rattle.dsm_semantics.specs.Values;
+ghost use Rattle.dsm_semantics.specs.Assignments;
+ghost use Rattle.dsm_values.specs.Values;
 ghost use Rattle.dsm_semantics.specs.Semantics;
 ghost use Rattle.dsm_check.specs.Resolved as r;
 ghost use Rattle.dsm_interpreter.specs.Threads.{Becomes, Steps, state_in};
@@ -12,10 +13,10 @@ use crate::execution::Execution;
 use crate::item::{Item, Use};
 use crate::location::place;
 use crate::operands::{pop_value, top_value, value_below};
-use crate::value::{binary_value, step_value, unary_value};
 use dsm_base::{Fault, MemFault, Want};
 use dsm_check::{Expression, Location};
 use dsm_syntax::{AssignOp, BinaryOp, StepOp, UnaryOp};
+use dsm_values::{binary_value, step_value, unary_value};
 
 impl<'a> Execution<'a> {
     /// Begins an expression.
@@ -108,7 +109,7 @@ impl<'a> Execution<'a> {
     ) -> Result<(), MemFault>
         ensures { OnOk result (Becomes self.old self.new (λ s.
             record s {
-              todo = Semantics.assigning (Values.operator_of op) line
+              todo = Semantics.assigning (Assignments.operator_of op) line
                   (Semantics.place_of (view_location location.now)) (view e.now) s.todo;
             })) }
     {
@@ -243,7 +244,7 @@ impl<'a> Execution<'a> {
 
 /// The operator of an assignment that changes what is there.
 fn operator_of(op: AssignOp) -> Option<BinaryOp>
-    ensures { result ≡ Values.operator_of op }
+    ensures { result ≡ Assignments.operator_of op }
 {
     match op {
         AssignOp::Set => None,

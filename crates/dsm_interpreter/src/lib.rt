@@ -14,6 +14,5 @@ mod print;
 mod statement;
 mod step;
 mod thread;
-mod value;
 
 pub use thread::PlainThread;

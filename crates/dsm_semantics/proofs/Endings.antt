@@ -10,7 +10,7 @@ use Rattle.dsm_base.proofs.Families.{update_under}
 use Rattle.dsm_base.proofs.StepsSettle.{settled_keeps}
 use Rattle.dsm_syntax.specs.declared.tree.Sharing.{Sharing}
 use Rattle.dsm_check.specs.Resolved as r
-use Rattle.dsm_semantics.specs.Values.{Outcome, holds, unary_value, step_value, binary_value}
+use Rattle.dsm_values.specs.Values.{Outcome, holds, unary_value, step_value, binary_value}
 use Rattle.dsm_semantics.specs.States.{Place, slot, cell, member, Use, Item, evaluate, evaluate_all, test_index, load, store, unary, step_by, binary, and_then, or_else, to_truth, choose, enter, discard, execute, run, declare, branch, round, decide, third_part, jump_back, leave, ask, take_lock, give, cross, gather, print, Frame, State, top, below, ending_in, ending_of}
 use Rattle.dsm_semantics.specs.Semantics.{member_number, at_member, loads, load_at, stores, store_at, comes_to, returns, declaring, declaration, gathering, lock_line, lock_number, evaluation, evaluation_of_all, execution, execution_of_all, act, act_first, step_in, step, ready, program_semantics, started, first_state, numbered}
 use Rattle.dsm_semantics.proofs.Falls.{weight_at, step_falls, ready_over}

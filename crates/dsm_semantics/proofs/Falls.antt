@@ -4,7 +4,8 @@ use Rattle.dsm_base.specs.declared.label.Want.{Want}
 use Rattle.dsm_syntax.specs.declared.tree.BinaryOp.{BinaryOp}
 use Rattle.dsm_syntax.specs.declared.tree.Sharing.{Sharing}
 use Rattle.dsm_check.specs.Resolved as r
-use Rattle.dsm_semantics.specs.Values.{Outcome, holds, unary_value, step_value, binary_value, operator_of}
+use Rattle.dsm_values.specs.Values.{Outcome, holds, unary_value, step_value, binary_value}
+use Rattle.dsm_semantics.specs.Assignments.{operator_of}
 use Rattle.dsm_base.specs.Steps.{Move, goes, asks, Over}
 use Rattle.dsm_semantics.specs.States.{Place, slot, cell, member, Use, Loop, Item, evaluate, evaluate_all, test_index, load, store, unary, step_by, binary, and_then, or_else, to_truth, choose, enter, discard, execute, run, declare, branch, round, decide, third_part, jump_back, leave, ask, take_lock, give, cross, gather, print, Frame, State, top, below, over}
 use Rattle.dsm_semantics.specs.Weights.{location_weight, expression_weight, option_weight, start_weight, lock_weight, statement_weight, weight}

@@ -7,7 +7,7 @@ use Rattle.dsm_base.specs.declared.label.Label.{Label}
 use Rattle.dsm_base.specs.Threads.{Completes}
 use Rattle.dsm_syntax.specs.declared.tree.Sharing.{Sharing}
 use Rattle.dsm_check.specs.Resolved as r
-use Rattle.dsm_semantics.specs.Values.{Outcome, holds, unary_value, step_value, binary_value}
+use Rattle.dsm_values.specs.Values.{Outcome, holds, unary_value, step_value, binary_value}
 use Rattle.dsm_base.specs.Steps.{Move, asks, want_of, next_of, answer_of, Over, ended, stopped}
 use Rattle.dsm_semantics.specs.States.{Place, slot, cell, member, Use, Item, evaluate, evaluate_all, test_index, load, store, unary, step_by, binary, and_then, or_else, to_truth, choose, enter, discard, execute, run, declare, branch, round, decide, third_part, jump_back, leave, ask, take_lock, give, cross, gather, print, Frame, State, top, below, over}
 use Rattle.dsm_semantics.specs.Semantics.{below_index, values_in, member_number, at_member, loads, load_at, stores, store_at, comes_to, numbered, entered, returns, declaring, declaration, gathering, lock_line, lock_number, evaluation, evaluation_of_all, execution, execution_of_all, act, act_first, step_in, step, completed}

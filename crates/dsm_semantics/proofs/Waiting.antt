@@ -6,7 +6,8 @@ use Rattle.dsm_base.specs.declared.label.Want.{Want}
 use Rattle.dsm_syntax.specs.declared.tree.BinaryOp.{BinaryOp}
 use Rattle.dsm_syntax.specs.declared.tree.Sharing.{Sharing}
 use Rattle.dsm_check.specs.Resolved as r
-use Rattle.dsm_semantics.specs.Values.{Outcome, holds, unary_value, step_value, binary_value, operator_of}
+use Rattle.dsm_values.specs.Values.{Outcome, holds, unary_value, step_value, binary_value}
+use Rattle.dsm_semantics.specs.Assignments.{operator_of}
 use Rattle.dsm_base.specs.Steps.{Move, goes, asks, Over}
 use Rattle.dsm_semantics.specs.States.{Place, slot, cell, member, LockPlace, Use, Loop, Item, evaluate, evaluate_all, test_index, load, store, unary, step_by, binary, and_then, or_else, to_truth, choose, enter, discard, execute, run, declare, branch, round, decide, third_part, jump_back, leave, ask, take_lock, give, cross, gather, print, Frame, State, top, below}
 use Rattle.dsm_semantics.specs.Semantics.{member_number, at_member, reaching, place_of, loads, load_at, stores, store_at, comes_to, second, assigning, returns, declaration, declaring, branching, starting, testing, stepping, after_loop, after_body, reaching_lock, lock_line, lock_number, below_index, gathering, evaluation, evaluation_of_all, execution, execution_of_all, act, act_first, step_in, step}

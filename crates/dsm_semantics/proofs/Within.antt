@@ -11,7 +11,8 @@ use Rattle.dsm_syntax.specs.declared.tree.BinaryOp.{BinaryOp}
 use Rattle.dsm_syntax.specs.declared.tree.Sharing.{Sharing}
 use Rattle.dsm_check.specs.declared.resolved.Array.{Array}
 use Rattle.dsm_check.specs.Resolved as r
-use Rattle.dsm_semantics.specs.Values.{Outcome, holds, unary_value, step_value, binary_value, operator_of}
+use Rattle.dsm_values.specs.Values.{Outcome, holds, unary_value, step_value, binary_value}
+use Rattle.dsm_semantics.specs.Assignments.{operator_of}
 use Rattle.dsm_base.specs.Steps.{Move, goes, asks, want_of, next_of, Over}
 use Rattle.dsm_semantics.specs.States.{Place, slot, cell, member, LockPlace, one_lock, lock_member, Use, Loop, Item, evaluate, evaluate_all, test_index, load, store, unary, step_by, binary, and_then, or_else, to_truth, choose, enter, discard, execute, run, declare, branch, round, decide, third_part, jump_back, leave, ask, take_lock, give, cross, gather, print, Frame, State, top, below}
 use Rattle.dsm_semantics.specs.Within.{Extent, extent_of, IsArrayBelow, IsCellWithin, IsArrayWithin, IsLocationWithin, IsWithin, AreWithin, IsOptionWithin, AreVariablesWithin, ArePartsWithin, IsStartWithin, IsLockWithin, IsStatementWithin, AreStatementsWithin, AreFunctionsWithin, NamesWithin, IsPlaceWithin, IsLockPlaceWithin, IsOtherWithin, IsLoopWithin, IsItemWithin, AreItemsWithin, AreFramesWithin, IsStateWithin}

@@ -1,4 +1,4 @@
-pub mod Values
+pub mod Assignments
 pub mod States
 pub mod Weights
 pub mod Semantics

@@ -10,7 +10,8 @@ use Rattle.dsm_syntax.specs.declared.tree.BinaryOp.{BinaryOp}
 use Rattle.dsm_syntax.specs.declared.tree.Sharing.{Sharing}
 use Rattle.dsm_check.specs.declared.resolved.Array.{Array}
 use Rattle.dsm_check.specs.Resolved as r
-use Rattle.dsm_semantics.specs.Values.{Outcome, holds, truth, unary_value, step_value, binary_value, operator_of}
+use Rattle.dsm_values.specs.Values.{Outcome, holds, truth, unary_value, step_value, binary_value}
+use Rattle.dsm_semantics.specs.Assignments.{operator_of}
 use Rattle.dsm_base.specs.Steps as steps
 use Rattle.dsm_base.specs.Steps.{Move, goes, asks, Over, Machine, semantics_of}
 use Rattle.dsm_semantics.specs.States.{Place, slot, cell, member, LockPlace, one_lock, lock_member, Use, for_value, for_change, for_step_behind, Loop, Item, evaluate, evaluate_all, test_index, load, store, unary, step_by, binary, and_then, or_else, to_truth, choose, enter, discard, execute, run, declare, branch, round, decide, third_part, jump_back, leave, ask, take_lock, give, cross, gather, print, Frame, State, top, below, over}
