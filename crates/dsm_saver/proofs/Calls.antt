@@ -1,13 +1,13 @@
 -- What a saver knows before a call of its store, and what the two are after it.
 use Rattle.std.proofs.Common.{◌≡◌, ℕ, ◌≤◌, ◌<◌, List, [], Option, Some, None, refl, sym, ◌∙◌, ap, subst, arith}
-use Rattle.std.specs.Prelude.{IfSome}
+use Rattle.std.specs.Prelude.{IfSome, MatchOption}
 use Rattle.std.specs.Option.{option_map}
 use Rattle.dsm_base.specs.Store.{Contents, with_block, with_mark, IsUnmarked, ChangesSlot, ChangesBlock, Stands}
 use Rattle.dsm_saver.specs.declared.answers.Wrote.{Wrote}
 use Rattle.dsm_saver.specs.declared.answers.Wrote.TheVariants.{Nothing, Block, Marked, GaveUp}
 use Rattle.dsm_saver.specs.Blocks.{IsImage, block_count, block_of, torn_after, saved}
 use Rattle.dsm_saver.specs.States.{State, Image, IsApart, HasMark, HasWritten, HasImage, Fits, free_slot}
-use Rattle.dsm_saver.specs.Answers.{Advances, Leaves, advanced, mark_of, stopped, saved_after}
+use Rattle.dsm_saver.specs.Answers.{Advances, GivenUp, Leaves, advanced, mark_of, stopped, saved_after}
 use Rattle.dsm_saver.proofs.Slots.{IsElsewhere, unmarked, elsewhere, free_elsewhere, kept-slot, kept-block, kept-write, written-more, saved-marked}
 
 -- room in the lowest slot that isn't marked leaves what is saved
@@ -63,6 +63,23 @@ leaves-due image due slot block bytes (Some old) now is written =
     ∙ ap (λ (b : ℕ). with_block image.slot b bytes old) is.block_is
     ∙ ap (λ (xs : List ℕ). with_block image.slot image.written xs old) is.bytes_are)
 
+-- a failure while blocks are left
+given-up : (image : Image) (holds now : Option Contents) → image.written < block_count image.bytes → Stands holds now (ChangesBlock image.slot image.written) → Stands holds now (GivenUp image)
+given-up image None now below stands = stands
+given-up image (Some old) None below stands = absurd stands
+given-up image (Some old) (Some new) below stands = record { unmarked = λ all. absurd (omega (arith, below, all)); one_block = stands }
+
+one-block : (image : Image) (holds now : Option Contents) → Stands holds now (GivenUp image) → Stands holds now (ChangesBlock image.slot image.written)
+one-block image None now stands = stands
+one-block image (Some old) None stands = absurd stands
+one-block image (Some old) (Some new) stands = stands.one_block
+
+-- a failed mark changes nothing
+pub mark-failed : (image : Image) (holds now : Option Contents) → now ≡ holds → Stands holds now (Leaves image [] Wrote.GaveUp)
+mark-failed image None now same = same
+mark-failed image (Some old) now same =
+    rw same record { unmarked = λ all. refl; one_block = record { same_mark = refl; others = λ s b other. refl } }
+
 -- a mark, as a store that tells shows it
 marked-mark : (image : Image) (turn : ℕ) (holds now : Option Contents) → Stands holds now (Leaves image [] (Wrote.Marked turn))
     → now ≡ option_map (with_mark (Some (mark_of image))) holds
@@ -99,9 +116,9 @@ module _ {marked : Option (ℕ × ℕ)} {held : Option Image} {state : State} {i
 
   module _ (now : Option Contents) (due : Image → List ℕ) {slot block : ℕ} {bytes : List ℕ} (is : IsDue image (due image) slot block bytes) where
     -- after a write
-    pub leaves-written : now ≡ option_map (with_block slot block bytes) holds → IfSome state.image (λ i. Stands holds now (Leaves i (due i) (Wrote.Block block)))
+    pub leaves-written : now ≡ option_map (with_block slot block bytes) holds → MatchOption state.image (now ≡ holds) (λ i. Stands holds now (Leaves i (due i) (Wrote.Block block)))
     leaves-written written =
-        subst (λ (o : Option Image). IfSome o (λ i. Stands holds now (Leaves i (due i) (Wrote.Block block)))) (sym state-image)
+        subst (λ (o : Option Image). MatchOption o (now ≡ holds) (λ i. Stands holds now (Leaves i (due i) (Wrote.Block block)))) (sym state-image)
         (leaves-due image (due image) slot block bytes holds now is written)
 
     kept-written : now ≡ option_map (with_block slot block bytes) holds → HasMark marked now × Stands holds now (λ old new. saved new ≡ saved old)
@@ -115,11 +132,12 @@ module _ {marked : Option (ℕ × ℕ)} {held : Option Image} {state : State} {i
         subst (λ (s : State). Fits s now later) (sym is_after) (record { mark = (kept-written written).0; image = tt })
 
     -- after a failure
-    pub leaves-failed : Stands holds now (ChangesBlock slot block) → IfSome state.image (λ i. Stands holds now (Leaves i (due i) Wrote.GaveUp))
-    leaves-failed stands =
+    pub leaves-failed : block < block_count image.bytes → Stands holds now (ChangesBlock slot block) → MatchOption state.image (now ≡ holds) (λ i. Stands holds now (Leaves i (due i) Wrote.GaveUp))
+    leaves-failed below stands =
         let in_slot : Stands holds now (ChangesBlock image.slot block) = subst (λ (s : ℕ). Stands holds now (ChangesBlock s block)) is.slot_is stands in
         let in_block : Stands holds now (ChangesBlock image.slot image.written) = subst (λ (b : ℕ). Stands holds now (ChangesBlock image.slot b)) is.block_is in_slot in
-        subst (λ (o : Option Image). IfSome o (λ i. Stands holds now (Leaves i (due i) Wrote.GaveUp))) (sym state-image) in_block
+        let given : Stands holds now (GivenUp image) = given-up image holds now (subst (λ (b : ℕ). b < block_count image.bytes) is.block_is below) in_block in
+        subst (λ (o : Option Image). MatchOption o (now ≡ holds) (λ i. Stands holds now (Leaves i (due i) Wrote.GaveUp))) (sym state-image) given
 
     kept-failed : Stands holds now (ChangesBlock slot block) → HasMark marked now × Stands holds now (λ old new. saved new ≡ saved old)
     kept-failed stands = kept-block slot block marked holds now known-mark (apart-image slot is.slot_is) stands
@@ -156,4 +174,4 @@ module _ {marked : Option (ℕ × ℕ)} {held : Option Image} {state : State} {i
       let kept = (saved-marked image holds now whole all has-image.written (marked-mark image turn holds now leaves)).1 in
       subst (λ (o : Option Image). Stands holds now (λ old new. saved new ≡ option_map (λ i. i.bytes) o)) (sym state-image) kept
   saved-finished GaveUp after now whole all advances leaves =
-      (kept-block image.slot image.written marked holds now known-mark (apart-image image.slot refl) leaves).1
+      (kept-block image.slot image.written marked holds now known-mark (apart-image image.slot refl) (one-block image holds now leaves)).1

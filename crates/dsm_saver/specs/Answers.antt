@@ -62,12 +62,17 @@ Tears before now (Block block) = IsSomeAnd before.image (λ image. (block ≡ im
 Tears before now (Marked turn) = ⊥
 Tears before now GaveUp = IsSomeAnd before.image (λ image. (image.written < block_count image.bytes) × (now ≡ stopped before))
 
+-- after a failure: nothing has changed where the mark was to be set, and else at most the next block
+pub record GivenUp (image : Image) (before now : Contents) : Type 0 where
+  pub unmarked : image.written ≡ block_count image.bytes → now ≡ before
+  pub one_block : ChangesBlock image.slot image.written before now
+
 -- the contents once an image was answered for whose next block was to be these bytes
 abbrev pub Leaves : Image → List ℕ → Wrote → Contents → Contents → Type 0
 Leaves image bytes Nothing before now = now ≡ before
 Leaves image bytes (Block block) before now = now ≡ with_block image.slot image.written bytes before
 Leaves image bytes (Marked turn) before now = now ≡ with_mark (Some (mark_of image)) before
-Leaves image bytes GaveUp before now = ChangesBlock image.slot image.written before now
+Leaves image bytes GaveUp before now = GivenUp image before now
 
 -- what is saved then: the image under way where it was marked, and else what was saved before
 abbrev pub saved_after : State → Wrote → Option (List ℕ) → Option (List ℕ)

@@ -1,7 +1,7 @@
 //! Savers.
 
-ghost use Rattle.std.specs.Prelude.{◌≡◌, ◌≤◌, ◌*◌, Some, None, [], length, IfOk, IfSome, MatchOption, MatchResult};
-ghost use Rattle.dsm_base.specs.Store.{IsSlot, IsBlock, Stands};
+ghost use Rattle.std.specs.Prelude.{◌≡◌, ◌≢◌, ℕ, ◌≤◌, ◌*◌, Some, None, [], length, IfOk, IfSome, MatchOption, MatchResult};
+ghost use Rattle.dsm_base.specs.Store.{IsSlot, IsBlock, ChangesSlot, Stands};
 ghost use Rattle.dsm_saver.specs.Blocks.{IsImage, saved, block_count, block_of, torn_after};
 ghost use Rattle.dsm_saver.specs.States.{Fits, HasMark, HasImage, free_slot};
 ghost use Rattle.dsm_saver.specs.Answers.{Begins, Advances, Tears, Leaves, GivesUpFor, NotBegunFor, stopped, saved_after};
@@ -81,6 +81,10 @@ impl Saver {
         ensures begins { MatchResult result (Begins self.old self.new bytes.items turn)
             (λ _. self.new ≡ self.old) }
         ensures fits { Fits self.new (store_holds store.new) (store_room store.new) }
+        ensures changes { Stands (store_holds store.old) (store_holds store.new)
+            (ChangesSlot (free_slot self.old.marked)) }
+        ensures others { (s : ℕ) → s ≢ free_slot self.old.marked →
+            store_room store.new s ≡ store_room store.old s }
         ensures saved { Stands (store_holds store.old) (store_holds store.new)
             (λ before now. saved now ≡ saved before) }
         ensures later { store_faults store.old ≤ store_faults store.new }
@@ -110,9 +114,10 @@ impl Saver {
     pub fn block(&mut self, store: &mut dyn Store) -> Wrote
         requires { Fits self.old (store_holds store.old) (store_room store.old) }
         ensures advances { Advances self.old self.new result }
-        ensures leaves { IfSome self.old.image (λ image.
-            Stands (store_holds store.old) (store_holds store.new)
+        ensures leaves { MatchOption self.old.image (store_holds store.new ≡ store_holds store.old)
+            (λ image. Stands (store_holds store.old) (store_holds store.new)
             (Leaves image (block_of image.written image.bytes) result)) }
+        ensures room { store_room store.new ≡ store_room store.old }
         ensures fits { Fits self.new (store_holds store.new) (store_room store.new) }
         ensures saved { Stands (store_holds store.old) (store_holds store.new)
             (λ before now. saved now ≡ saved_after self.old result (saved before)) }
@@ -143,6 +148,7 @@ impl Saver {
         ensures finishes { Advances (record self.old { image = Some image }) self.new result }
         ensures leaves { Stands (store_holds store.old) (store_holds store.new)
             (Leaves image [] result) }
+        ensures room { store_room store.new ≡ store_room store.old }
         ensures cause { GivesUpFor (store_faults store.old) (store_faults store.new) result }
     {
         let (slot, blocks) = image.mark();
@@ -161,9 +167,10 @@ impl Saver {
         requires fits { Fits self.old (store_holds store.old) (store_room store.old) }
         requires kept { kept ≤ 512 }
         ensures tears { Tears self.old self.new result }
-        ensures leaves { IfSome self.old.image (λ image.
-            Stands (store_holds store.old) (store_holds store.new)
+        ensures leaves { MatchOption self.old.image (store_holds store.new ≡ store_holds store.old)
+            (λ image. Stands (store_holds store.old) (store_holds store.new)
             (Leaves image (torn_after kept (block_of image.written image.bytes)) result)) }
+        ensures room { store_room store.new ≡ store_room store.old }
         ensures fits { Fits self.new (store_holds store.new) (store_room store.new) }
         ensures saved { Stands (store_holds store.old) (store_holds store.new)
             (λ before now. saved now ≡ saved before) }

@@ -51,7 +51,7 @@ returns-in-Err-clause-leaves g c =
     let before = opened c.self.view_is (sym c.take.ensures.value ∙ c.in-Some.is) c.self.invariant c.requires in
     let is = due-whole c.in-Some.image c.mark-slot.result.0 c.in-Some-next.block c.in-Some-next.bytes.now
     (ap (λ (m : ℕ × ℕ). m.0) c.mark-slot.ensures.value) c.in-Some-next.ensures.number.0 c.in-Some-next.ensures.bytes in
-    leaves-failed before _ (λ image. block_of image.written image.bytes) is c.in-Err.ensures.writes
+    leaves-failed before _ (λ image. block_of image.written image.bytes) is c.in-Some-next.ensures.number.1 c.in-Err.ensures.writes
 
 pub returns-in-Err-clause-fits : goal.returns-in-Err-clause-fits
 returns-in-Err-clause-fits g c =

@@ -39,7 +39,7 @@ returns-in-Err-clause-leaves g c =
     let before = opened c.self.view_is c.in-Some.is c.self.invariant c.requires.fits in
     let is = due-torn c.args.kept c.in-Some.image c.mark-slot.result.0 c.in-Some-next.block c.in-Some-next.bytes.now c.torn_block-torn.result
     (ap (λ (m : ℕ × ℕ). m.0) c.mark-slot.ensures.value) c.in-Some-next.ensures.number.0 c.in-Some-next.ensures.bytes c.torn_block-torn.ensures in
-    leaves-failed before _ (λ image. torn_after c.args.kept (block_of image.written image.bytes)) is c.in-Err.ensures.writes
+    leaves-failed before _ (λ image. torn_after c.args.kept (block_of image.written image.bytes)) is c.in-Some-next.ensures.number.1 c.in-Err.ensures.writes
 
 pub returns-in-Err-clause-fits : goal.returns-in-Err-clause-fits
 returns-in-Err-clause-fits g c =
