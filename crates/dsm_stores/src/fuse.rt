@@ -1,13 +1,17 @@
 //! Stores that fail for good after some calls.
 
-ghost use Rattle.std.specs.Prelude.{◌≡◌, ◌≤◌, ◌-◌, ◌↔◌, IsTrue, MatchBool};
-ghost use Rattle.dsm_base.specs.Causes.{Rose};
+ghost use Rattle.std.specs.Prelude.{◌≡◌, ◌≤◌, ◌<◌, ◌-◌, ◌↔◌, Err, IfOk, OnOk, IsTrue, MatchBool};
+ghost use Rattle.dsm_base.specs.Causes.{HasCause, HasFailureCause, Rose};
+ghost use Rattle.dsm_base.specs.Store.{IsSlot, IsBlock, IsMark, IsMarkOrNone, IsUnmarked};
+ghost use Rattle.dsm_base.specs.Store.{Clears, Marks, ChangesSlot, Stands, Writes, MakesRoom, ReadsBlock, TellsMark};
+ghost use Rattle.dsm_base.specs.declared.errors.ReadErr.{ReadErr};
+ghost use Rattle.dsm_stores.specs.Fuses.{Burns, Fails};
 
 use crate::count::{counted, counted_room, raise};
 use dsm_base::{Failed, ReadErr, Store};
 
-/// A store that passes some calls on to another one and then fails every call. It tells what the
-/// other one holds.
+/// A store that passes some calls on to another one and then fails every call, without touching the
+/// other one. It tells what the other one holds.
 #[derive(Debug, Drop)]
 pub struct Fuse<S: Store> {
     inner: S,
@@ -54,7 +58,14 @@ impl<S: Store> Store for Fuse<S> {
 
     ghost store_faults = { λ fuse. fuse.faults };
 
-    fn clear(&mut self) -> Result<(), Failed> {
+    fn clear(&mut self) -> Result<(), Failed>
+        ensures cleared { Clears (S.store_holds self.old.inner) (S.store_holds self.new.inner) result }
+        ensures room { S.store_room self.new.inner ≡ S.store_room self.old.inner }
+        ensures cause { HasFailureCause self.old.faults self.new.faults result }
+        ensures burns { Burns self.old.left self.new.left self.old.inner self.new.inner
+            (Fails result) (HasFailureCause
+            (S.store_faults self.old.inner) (S.store_faults self.new.inner) result) }
+    {
         if !self.passes() {
             return Err(Failed);
         }
@@ -62,7 +73,18 @@ impl<S: Store> Store for Fuse<S> {
         counted(&mut self.faults, answer)
     }
 
-    fn room(&mut self, slot: u8, blocks: u32) -> Result<(), ReadErr> {
+    fn room(&mut self, slot: u8, blocks: u32) -> Result<(), ReadErr>
+        requires slot { IsSlot slot }
+        requires unmarked { IsUnmarked slot (S.store_holds self.old.inner) }
+        ensures changes { Stands (S.store_holds self.old.inner) (S.store_holds self.new.inner)
+            (ChangesSlot slot) }
+        ensures room { MakesRoom slot blocks (S.store_room self.old.inner) (S.store_room self.new.inner)
+            result }
+        ensures cause { HasCause self.old.faults self.new.faults result }
+        ensures burns { Burns self.old.left self.new.left self.old.inner self.new.inner
+            (result ≡ Err ReadErr.Failed) (HasCause
+            (S.store_faults self.old.inner) (S.store_faults self.new.inner) result) }
+    {
         if !self.passes() {
             return Err(ReadErr::Failed);
         }
@@ -70,7 +92,19 @@ impl<S: Store> Store for Fuse<S> {
         counted_room(&mut self.faults, answer)
     }
 
-    fn write(&mut self, slot: u8, block: u32, bytes: &[u8]) -> Result<(), Failed> {
+    fn write(&mut self, slot: u8, block: u32, bytes: &[u8]) -> Result<(), Failed>
+        requires slot { IsSlot slot }
+        requires unmarked { IsUnmarked slot (S.store_holds self.old.inner) }
+        requires room { block < S.store_room self.old.inner slot }
+        requires whole { IsBlock bytes.now }
+        ensures writes { Writes slot block bytes.now (S.store_holds self.old.inner)
+            (S.store_holds self.new.inner) result }
+        ensures room { S.store_room self.new.inner ≡ S.store_room self.old.inner }
+        ensures cause { HasFailureCause self.old.faults self.new.faults result }
+        ensures burns { Burns self.old.left self.new.left self.old.inner self.new.inner
+            (Fails result) (HasFailureCause
+            (S.store_faults self.old.inner) (S.store_faults self.new.inner) result) }
+    {
         if !self.passes() {
             return Err(Failed);
         }
@@ -78,7 +112,16 @@ impl<S: Store> Store for Fuse<S> {
         counted(&mut self.faults, answer)
     }
 
-    fn mark(&mut self, slot: u8, blocks: u32) -> Result<(), Failed> {
+    fn mark(&mut self, slot: u8, blocks: u32) -> Result<(), Failed>
+        requires { IsMark (slot, blocks) }
+        ensures marks { Marks (slot, blocks) (S.store_holds self.old.inner)
+            (S.store_holds self.new.inner) result }
+        ensures room { S.store_room self.new.inner ≡ S.store_room self.old.inner }
+        ensures cause { HasFailureCause self.old.faults self.new.faults result }
+        ensures burns { Burns self.old.left self.new.left self.old.inner self.new.inner
+            (Fails result) (HasFailureCause
+            (S.store_faults self.old.inner) (S.store_faults self.new.inner) result) }
+    {
         if !self.passes() {
             return Err(Failed);
         }
@@ -86,7 +129,16 @@ impl<S: Store> Store for Fuse<S> {
         counted(&mut self.faults, answer)
     }
 
-    fn marked(&mut self) -> Result<Option<(u8, u32)>, Failed> {
+    fn marked(&mut self) -> Result<Option<(u8, u32)>, Failed>
+        ensures told { IfOk result (TellsMark (S.store_holds self.old.inner)) }
+        ensures range { IfOk result IsMarkOrNone }
+        ensures same { S.store_holds self.new.inner ≡ S.store_holds self.old.inner }
+        ensures room { S.store_room self.new.inner ≡ S.store_room self.old.inner }
+        ensures cause { HasFailureCause self.old.faults self.new.faults result }
+        ensures burns { Burns self.old.left self.new.left self.old.inner self.new.inner
+            (Fails result) (HasFailureCause
+            (S.store_faults self.old.inner) (S.store_faults self.new.inner) result) }
+    {
         if !self.passes() {
             return Err(Failed);
         }
@@ -94,7 +146,19 @@ impl<S: Store> Store for Fuse<S> {
         counted(&mut self.faults, answer)
     }
 
-    fn read(&mut self, slot: u8, block: u32, into: &mut [u8]) -> Result<(), Failed> {
+    fn read(&mut self, slot: u8, block: u32, into: &mut [u8]) -> Result<(), Failed>
+        requires slot { IsSlot slot }
+        requires whole { IsBlock into.old }
+        ensures block { OnOk result
+            (ReadsBlock slot block (S.store_holds self.old.inner) into.new) }
+        ensures whole { IsBlock into.new }
+        ensures same { S.store_holds self.new.inner ≡ S.store_holds self.old.inner }
+        ensures room { S.store_room self.new.inner ≡ S.store_room self.old.inner }
+        ensures cause { HasFailureCause self.old.faults self.new.faults result }
+        ensures burns { Burns self.old.left self.new.left self.old.inner self.new.inner
+            (Fails result) (HasFailureCause
+            (S.store_faults self.old.inner) (S.store_faults self.new.inner) result) }
+    {
         if !self.passes() {
             return Err(Failed);
         }
