@@ -8,6 +8,7 @@ pub mod Copies
 pub mod NewerAlike
 mod Example
 mod Worked
+mod Checks
 mod Pairs
 mod Premises
 mod TailPremises

@@ -1,6 +1,9 @@
--- Worked pairs of neighbouring turns, one of each kind, computed by the definitions. Beside them stand those of the laws of runs: both holds exclusive or both shared, and an arrival and a crossing, bound and free.
-use Rattle.std.specs.Prelude.{◌≡◌, ℕ, pos, true, List, [], ◌∷◌, None}
+-- Worked pairs of neighbouring turns, one of each kind, computed by the definitions: the name of each tells the earlier turn and then the later one.
+use Rattle.std.specs.Prelude.{◌≡◌, ℕ, pos, true, List, [], ◌∷◌, ◌++◌, Some, None}
 use Rattle.std.proofs.Common.{refl}
+use Rattle.dsm_base.specs.declared.names.Cell.{Cell}
+use Rattle.dsm_base.specs.declared.names.Lock.{Lock}
+use Rattle.dsm_base.specs.declared.names.Bar.{Bar}
 use Rattle.dsm_base.specs.declared.names.Mode.{Mode}
 use Rattle.dsm_base.specs.declared.names.Fault.{Fault}
 use Rattle.dsm_base.specs.declared.label.Label.{Label}
@@ -9,97 +12,401 @@ use Rattle.dsm_base.specs.declared.setup.Object.{Object}
 use Rattle.dsm_base.specs.declared.setup.Setup.{Setup}
 use Rattle.dsm_base.specs.Plain.{Turn, after_run, plain_turn}
 use Rattle.dsm_laws_runs.specs.Swap.{rests_on, clashes, IsFree}
-use Rattle.dsm_laws_tails.proofs.Worked.{threads, the_lock, the_bar, the_cell, they_do, by, AreMade}
+use Rattle.dsm_laws_tails.specs.Fronts.{turns_by}
+use Rattle.dsm_laws_tails.proofs.Worked.{threads, in_even_epochs, of_two, by, IsMade, all_ask}
 
+-- two locks, two barriers and two cells, each bound to the lock of its number
 abbrev setup : Setup
 setup = record {
   procs = 2;
-  locks = 1;
-  bars = 1;
-  cells = 1;
-  bindings = record { object = Object.Lock record { 0 = 0 }; first = record { 0 = 0 }; count = 1; owner = 0; phase = 0; period = 0 } ∷ [];
+  locks = 2;
+  bars = 2;
+  cells = 2;
+  bindings = record { object = Object.Lock record { 0 = 0 }; first = record { 0 = 0 }; count = 1; owner = 0; phase = 0; period = 0 }
+      ∷ record { object = Object.Lock record { 0 = 1 }; first = record { 0 = 1 }; count = 1; owner = 0; phase = 0; period = 0 } ∷ [];
   kept = refl;
 }
 
--- the later turn doesn't rest on the earlier one, and both orders are made
+-- the threads ask first, the later turn doesn't rest on the earlier one, and both orders are made
 abbrev MayChange : (ℕ → List Want) → List Turn → Turn → Turn → Type 0
-MayChange first before earlier later = IsFree first threads before earlier later × AreMade setup first (later ∷ earlier ∷ before) × AreMade setup first (earlier ∷ later ∷ before)
+MayChange first before earlier later =
+    (all_ask setup first ≡ true) × IsFree first threads before earlier later × IsMade setup first (later ∷ earlier ∷ before) × IsMade setup first (earlier ∷ later ∷ before)
 
 -- the later turn rests on the earlier one, and can't be made without it
 abbrev IsBound : (ℕ → List Want) → List Turn → Turn → Turn → Type 0
 IsBound first before earlier later =
-    (rests_on ((after_run first threads before).held earlier.proc) ((after_run first threads before).arrived earlier.proc) earlier.label later.label ≡ true)
-    × AreMade setup first (later ∷ earlier ∷ before)
+    (all_ask setup first ≡ true)
+    × (rests_on ((after_run first threads before).held earlier.proc) ((after_run first threads before).arrived earlier.proc) earlier.label later.label ≡ true)
+    × IsMade setup first (later ∷ earlier ∷ before)
     × (plain_turn setup threads (after_run first threads before) later.proc ≡ None)
 
--- Locks.
+abbrev lock : ℕ → Lock
+lock n = record { 0 = n }
 
-abbrev locking : Mode → List Want
-locking mode = Want.Ask the_lock mode 1 ∷ Want.Take the_lock mode ∷ Want.Load the_cell 1 ∷ Want.Give the_lock 1 ∷ []
+abbrev bar : ℕ → Bar
+bar n = record { 0 = n }
 
-abbrev short : Mode → List Want
-short mode = Want.Ask the_lock mode 1 ∷ Want.Take the_lock mode ∷ Want.Give the_lock 1 ∷ []
+abbrev cell : ℕ → Cell
+cell n = record { 0 = n }
 
-abbrev asked : Mode → Mode → List Turn
-asked zero one = by 1 (Label.Ask the_lock one) ∷ by 0 (Label.Ask the_lock zero) ∷ []
+-- a thread's turn, and what it wants and makes up to there; the newest label first
+record Deed : Type 0 where
+  wants : List Want
+  made : List Label
+  label : Label
 
-shared_give_exclusive_take :
-    IsBound (they_do (short Mode.Shared) (short Mode.Excl)) (by 0 (Label.Take the_lock Mode.Shared 0) ∷ asked Mode.Shared Mode.Excl) (by 0 (Label.Give the_lock)) (by 1 (Label.Take the_lock Mode.Excl 0))
-shared_give_exclusive_take = (refl, (((((tt, refl), refl), refl), refl), refl), refl)
+-- 0 and 1 are both ready
+abbrev Free : Deed → Deed → Type 0
+Free one other = MayChange (of_two one.wants other.wants) (turns_by 1 other.made ++ turns_by 0 one.made) (by 0 one.label) (by 1 other.label)
 
-exclusive_give_shared_take :
-    IsBound (they_do (short Mode.Excl) (short Mode.Shared)) (by 0 (Label.Take the_lock Mode.Excl 0) ∷ asked Mode.Excl Mode.Shared) (by 0 (Label.Give the_lock)) (by 1 (Label.Take the_lock Mode.Shared 1))
-exclusive_give_shared_take = (refl, (((((tt, refl), refl), refl), refl), refl), refl)
+-- What touches nothing, and an ask.
 
-abbrev both_share : ℕ → List Want
-both_share = they_do (short Mode.Shared) (short Mode.Shared)
+abbrev alone : Want → Label → Deed
+alone want label = record { wants = want ∷ []; made = []; label = label }
 
-take_take : MayChange both_share (asked Mode.Shared Mode.Shared) (by 0 (Label.Take the_lock Mode.Shared 0)) (by 1 (Label.Take the_lock Mode.Shared 0))
-take_take = (refl, ((((tt, refl), refl), refl), refl), ((((tt, refl), refl), refl), refl))
+abbrev quiet : Deed
+quiet = alone Want.Quiet Label.Quiet
 
-take_give : MayChange both_share (by 1 (Label.Take the_lock Mode.Shared 0) ∷ asked Mode.Shared Mode.Shared) (by 0 (Label.Take the_lock Mode.Shared 0)) (by 1 (Label.Give the_lock))
-take_give = (refl, (((((tt, refl), refl), refl), refl), refl), (((((tt, refl), refl), refl), refl), refl))
+abbrev prints : Deed
+prints = alone Want.Line (Label.Line [])
 
-abbrev shared : List Turn
-shared = by 1 (Label.Take the_lock Mode.Shared 0) ∷ by 0 (Label.Take the_lock Mode.Shared 0) ∷ asked Mode.Shared Mode.Shared
+abbrev ends : Deed
+ends = alone Want.End Label.End
 
-give_give : MayChange both_share shared (by 0 (Label.Give the_lock)) (by 1 (Label.Give the_lock))
-give_give = (refl, ((((((tt, refl), refl), refl), refl), refl), refl), ((((((tt, refl), refl), refl), refl), refl), refl))
+abbrev stops : Deed
+stops = alone (Want.Stop Fault.Unbound 1) (Label.Stop Fault.Unbound 1)
 
-load_load : MayChange (they_do (locking Mode.Shared) (locking Mode.Shared)) shared (by 0 (Label.Load the_cell (pos 0))) (by 1 (Label.Load the_cell (pos 0)))
-load_load = (refl, ((((((tt, refl), refl), refl), refl), refl), refl), ((((((tt, refl), refl), refl), refl), refl), refl))
+abbrev asks : ℕ → Deed
+asks n = record { wants = Want.Ask (lock n) Mode.Excl 1 ∷ Want.Take (lock n) Mode.Excl ∷ []; made = []; label = Label.Ask (lock n) Mode.Excl }
 
--- a load after another's store of the same cell would clash; in its place the thread stops, as it holds no lock
-store_then_load :
-    (clashes (Label.Store the_cell (pos 1)) (Label.Load the_cell (pos 1)) ≡ true)
-    × AreMade setup (they_do (Want.Ask the_lock Mode.Excl 1 ∷ Want.Take the_lock Mode.Excl ∷ Want.Store the_cell (pos 1) 1 ∷ []) (Want.Load the_cell 7 ∷ []))
-    (by 1 (Label.Stop Fault.Unbound 7) ∷ by 0 (Label.Store the_cell (pos 1)) ∷ by 0 (Label.Take the_lock Mode.Excl 0) ∷ by 0 (Label.Ask the_lock Mode.Excl) ∷ [])
-store_then_load = (refl, ((((tt, refl), refl), refl), refl))
+-- Locks: a thread asks for one, takes it, and does one thing more.
 
--- Barriers.
+abbrev takes : Mode → ℕ → Deed
+takes mode n = record {
+  wants = Want.Ask (lock n) mode 1 ∷ Want.Take (lock n) mode ∷ [];
+  made = Label.Ask (lock n) mode ∷ [];
+  label = Label.Take (lock n) mode 0;
+}
 
-abbrev crossing : List Want
-crossing = Want.Arrive the_bar ∷ Want.Cross the_bar ∷ Want.Arrive the_bar ∷ Want.Cross the_bar ∷ []
+abbrev holds : Mode → ℕ → Want → Label → Deed
+holds mode n want label = record {
+  wants = Want.Ask (lock n) mode 1 ∷ Want.Take (lock n) mode ∷ want ∷ [];
+  made = Label.Take (lock n) mode 0 ∷ Label.Ask (lock n) mode ∷ [];
+  label = label;
+}
 
-arrive_arrive : MayChange (they_do crossing crossing) [] (by 0 (Label.Arrive the_bar)) (by 1 (Label.Arrive the_bar))
-arrive_arrive = (refl, ((tt, refl), refl), ((tt, refl), refl))
+abbrev loads : Mode → ℕ → Deed
+loads mode n = holds mode n (Want.Load (cell n) 1) (Label.Load (cell n) (pos 0))
+
+abbrev stores : ℕ → Deed
+stores n = holds Mode.Excl n (Want.Store (cell n) (pos 5) 1) (Label.Store (cell n) (pos 5))
+
+abbrev gives : Mode → ℕ → Deed
+gives mode n = holds mode n (Want.Give (lock n) 1) (Label.Give (lock n))
+
+-- Barriers: a thread comes to one; where one is to cross it, both have come, and the other has crossed and goes on.
+
+abbrev arrives : ℕ → Deed
+arrives n = record { wants = Want.Arrive (bar n) ∷ Want.Cross (bar n) ∷ []; made = []; label = Label.Arrive (bar n) }
+
+abbrev meeting : List Want
+meeting = Want.Arrive (bar 0) ∷ Want.Cross (bar 0) ∷ []
 
 abbrev both_came : List Turn
-both_came = by 1 (Label.Arrive the_bar) ∷ by 0 (Label.Arrive the_bar) ∷ []
+both_came = by 1 (Label.Arrive (bar 0)) ∷ by 0 (Label.Arrive (bar 0)) ∷ []
 
-cross_cross : MayChange (they_do crossing crossing) both_came (by 0 (Label.Cross the_bar 1)) (by 1 (Label.Cross the_bar 1))
-cross_cross = (refl, ((((tt, refl), refl), refl), refl), ((((tt, refl), refl), refl), refl))
+abbrev FreeCross : Deed → Type 0
+FreeCross other = MayChange (of_two meeting (meeting ++ other.wants)) (turns_by 1 other.made ++ (by 1 (Label.Cross (bar 0) 1) ∷ both_came)) (by 0 (Label.Cross (bar 0) 1)) (by 1 other.label)
 
-cross_arrive : MayChange (they_do crossing crossing) (by 1 (Label.Cross the_bar 1) ∷ both_came) (by 0 (Label.Cross the_bar 1)) (by 1 (Label.Arrive the_bar))
-cross_arrive = (refl, (((((tt, refl), refl), refl), refl), refl), (((((tt, refl), refl), refl), refl), refl))
+abbrev CrossFree : Deed → Type 0
+CrossFree one = MayChange (of_two (meeting ++ one.wants) meeting) (turns_by 0 one.made ++ (by 0 (Label.Cross (bar 0) 1) ∷ both_came)) (by 0 one.label) (by 1 (Label.Cross (bar 0) 1))
 
--- Own parts.
+-- What touches nothing beside any other, as the earlier and as the later turn.
 
-ask_ask : MayChange both_share [] (by 0 (Label.Ask the_lock Mode.Shared)) (by 1 (Label.Ask the_lock Mode.Shared))
-ask_ask = (refl, ((tt, refl), refl), ((tt, refl), refl))
+quiet_line : Free quiet prints
+quiet_line = (refl, refl, refl, refl)
 
-quiet_line : MayChange (they_do (Want.Quiet ∷ []) (Want.Line ∷ [])) [] (by 0 Label.Quiet) (by 1 (Label.Line []))
-quiet_line = (refl, ((tt, refl), refl), ((tt, refl), refl))
+line_quiet : Free prints quiet
+line_quiet = (refl, refl, refl, refl)
 
-end_arrive : MayChange (they_do (Want.End ∷ []) crossing) [] (by 0 Label.End) (by 1 (Label.Arrive the_bar))
-end_arrive = (refl, ((tt, refl), refl), ((tt, refl), refl))
+quiet_load : Free quiet (loads Mode.Excl 1)
+quiet_load = (refl, refl, refl, refl)
+
+load_quiet : Free (loads Mode.Excl 0) quiet
+load_quiet = (refl, refl, refl, refl)
+
+line_store : Free prints (stores 1)
+line_store = (refl, refl, refl, refl)
+
+store_line : Free (stores 0) prints
+store_line = (refl, refl, refl, refl)
+
+end_arrive : Free ends (arrives 0)
+end_arrive = (refl, refl, refl, refl)
+
+arrive_end : Free (arrives 0) ends
+arrive_end = (refl, refl, refl, refl)
+
+end_take : Free ends (takes Mode.Excl 0)
+end_take = (refl, refl, refl, refl)
+
+give_end : Free (gives Mode.Excl 0) ends
+give_end = (refl, refl, refl, refl)
+
+stop_take : Free stops (takes Mode.Excl 0)
+stop_take = (refl, refl, refl, refl)
+
+take_stop : Free (takes Mode.Excl 0) stops
+take_stop = (refl, refl, refl, refl)
+
+stop_give : Free stops (gives Mode.Excl 0)
+stop_give = (refl, refl, refl, refl)
+
+stop_cross : CrossFree stops
+stop_cross = (refl, refl, refl, refl)
+
+cross_stop : FreeCross stops
+cross_stop = (refl, refl, refl, refl)
+
+ask_ask : Free (asks 0) (asks 0)
+ask_ask = (refl, refl, refl, refl)
+
+ask_take : Free (asks 0) (takes Mode.Excl 0)
+ask_take = (refl, refl, refl, refl)
+
+take_ask : Free (takes Mode.Excl 0) (asks 0)
+take_ask = (refl, refl, refl, refl)
+
+ask_give : Free (asks 0) (gives Mode.Excl 0)
+ask_give = (refl, refl, refl, refl)
+
+give_ask : Free (gives Mode.Excl 0) (asks 0)
+give_ask = (refl, refl, refl, refl)
+
+ask_store : Free (asks 0) (stores 0)
+ask_store = (refl, refl, refl, refl)
+
+ask_cross : CrossFree (asks 0)
+ask_cross = (refl, refl, refl, refl)
+
+cross_ask : FreeCross (asks 0)
+cross_ask = (refl, refl, refl, refl)
+
+-- Loads and stores beside any other.
+
+load_load : Free (loads Mode.Shared 0) (loads Mode.Shared 0)
+load_load = (refl, refl, refl, refl)
+
+load_load_of_other : Free (loads Mode.Excl 0) (loads Mode.Excl 1)
+load_load_of_other = (refl, refl, refl, refl)
+
+load_store_of_other : Free (loads Mode.Excl 0) (stores 1)
+load_store_of_other = (refl, refl, refl, refl)
+
+store_load_of_other : Free (stores 0) (loads Mode.Excl 1)
+store_load_of_other = (refl, refl, refl, refl)
+
+store_store_of_other : Free (stores 0) (stores 1)
+store_store_of_other = (refl, refl, refl, refl)
+
+load_take : Free (loads Mode.Shared 0) (takes Mode.Shared 0)
+load_take = (refl, refl, refl, refl)
+
+take_load : Free (takes Mode.Shared 0) (loads Mode.Shared 0)
+take_load = (refl, refl, refl, refl)
+
+load_give : Free (loads Mode.Shared 0) (gives Mode.Shared 0)
+load_give = (refl, refl, refl, refl)
+
+give_load : Free (gives Mode.Shared 0) (loads Mode.Shared 0)
+give_load = (refl, refl, refl, refl)
+
+store_take_of_other : Free (stores 0) (takes Mode.Excl 1)
+store_take_of_other = (refl, refl, refl, refl)
+
+take_store_of_other : Free (takes Mode.Excl 0) (stores 1)
+take_store_of_other = (refl, refl, refl, refl)
+
+store_give_of_other : Free (stores 0) (gives Mode.Excl 1)
+store_give_of_other = (refl, refl, refl, refl)
+
+give_store_of_other : Free (gives Mode.Excl 0) (stores 1)
+give_store_of_other = (refl, refl, refl, refl)
+
+load_arrive : Free (loads Mode.Excl 0) (arrives 0)
+load_arrive = (refl, refl, refl, refl)
+
+arrive_load : Free (arrives 0) (loads Mode.Excl 0)
+arrive_load = (refl, refl, refl, refl)
+
+store_arrive : Free (stores 0) (arrives 0)
+store_arrive = (refl, refl, refl, refl)
+
+arrive_store : Free (arrives 0) (stores 0)
+arrive_store = (refl, refl, refl, refl)
+
+load_cross : CrossFree (loads Mode.Excl 0)
+load_cross = (refl, refl, refl, refl)
+
+cross_load : FreeCross (loads Mode.Excl 0)
+cross_load = (refl, refl, refl, refl)
+
+store_cross : CrossFree (stores 0)
+store_cross = (refl, refl, refl, refl)
+
+cross_store : FreeCross (stores 0)
+cross_store = (refl, refl, refl, refl)
+
+-- Takes and gives of one lock.
+
+take_take : Free (takes Mode.Shared 0) (takes Mode.Shared 0)
+take_take = (refl, refl, refl, refl)
+
+take_give : Free (takes Mode.Shared 0) (gives Mode.Shared 0)
+take_give = (refl, refl, refl, refl)
+
+give_give : Free (gives Mode.Shared 0) (gives Mode.Shared 0)
+give_give = (refl, refl, refl, refl)
+
+give_take : Free (gives Mode.Shared 0) (takes Mode.Shared 0)
+give_take = (refl, refl, refl, refl)
+
+-- 0 gives the lock back, and 1 takes it with a version
+abbrev GiveThenTake : Mode → Mode → ℕ → Type 0
+GiveThenTake given taken version =
+    IsBound (of_two (gives given 0).wants (takes taken 0).wants) (turns_by 0 (gives given 0).made ++ turns_by 1 (takes taken 0).made) (by 0 (Label.Give (lock 0))) (by 1 (Label.Take (lock 0) taken version))
+
+exclusive_give_exclusive_take : GiveThenTake Mode.Excl Mode.Excl 1
+exclusive_give_exclusive_take = (refl, refl, refl, refl)
+
+shared_give_exclusive_take : GiveThenTake Mode.Shared Mode.Excl 0
+shared_give_exclusive_take = (refl, refl, refl, refl)
+
+exclusive_give_shared_take : GiveThenTake Mode.Excl Mode.Shared 1
+exclusive_give_shared_take = (refl, refl, refl, refl)
+
+-- Takes and gives of another lock, or beside a barrier.
+
+take_take_of_other : Free (takes Mode.Excl 0) (takes Mode.Excl 1)
+take_take_of_other = (refl, refl, refl, refl)
+
+take_give_of_other : Free (takes Mode.Excl 0) (gives Mode.Excl 1)
+take_give_of_other = (refl, refl, refl, refl)
+
+give_take_of_other : Free (gives Mode.Excl 0) (takes Mode.Excl 1)
+give_take_of_other = (refl, refl, refl, refl)
+
+give_give_of_other : Free (gives Mode.Excl 0) (gives Mode.Excl 1)
+give_give_of_other = (refl, refl, refl, refl)
+
+take_arrive : Free (takes Mode.Excl 0) (arrives 0)
+take_arrive = (refl, refl, refl, refl)
+
+arrive_take : Free (arrives 0) (takes Mode.Excl 0)
+arrive_take = (refl, refl, refl, refl)
+
+give_arrive : Free (gives Mode.Excl 0) (arrives 0)
+give_arrive = (refl, refl, refl, refl)
+
+arrive_give : Free (arrives 0) (gives Mode.Excl 0)
+arrive_give = (refl, refl, refl, refl)
+
+take_cross : CrossFree (takes Mode.Excl 0)
+take_cross = (refl, refl, refl, refl)
+
+cross_take : FreeCross (takes Mode.Excl 0)
+cross_take = (refl, refl, refl, refl)
+
+give_cross : CrossFree (gives Mode.Excl 0)
+give_cross = (refl, refl, refl, refl)
+
+cross_give : FreeCross (gives Mode.Excl 0)
+cross_give = (refl, refl, refl, refl)
+
+-- Arrivals and crossings of one barrier.
+
+arrive_arrive : Free (arrives 0) (arrives 0)
+arrive_arrive = (refl, refl, refl, refl)
+
+cross_cross : MayChange (of_two meeting meeting) both_came (by 0 (Label.Cross (bar 0) 1)) (by 1 (Label.Cross (bar 0) 1))
+cross_cross = (refl, refl, refl, refl)
+
+cross_arrive : FreeCross (arrives 0)
+cross_arrive = (refl, refl, refl, refl)
+
+-- the arrival is for the next epoch
+later_arrive_cross : CrossFree (arrives 0)
+later_arrive_cross = (refl, refl, refl, refl)
+
+-- it is for the epoch that the other crosses into
+arrive_cross : IsBound (of_two meeting meeting) (by 1 (Label.Arrive (bar 0)) ∷ []) (by 0 (Label.Arrive (bar 0))) (by 1 (Label.Cross (bar 0) 1))
+arrive_cross = (refl, refl, refl, refl)
+
+-- Arrivals and crossings of another barrier.
+
+arrive_arrive_of_other : Free (arrives 0) (arrives 1)
+arrive_arrive_of_other = (refl, refl, refl, refl)
+
+arrive_cross_of_other : CrossFree (arrives 1)
+arrive_cross_of_other = (refl, refl, refl, refl)
+
+cross_arrive_of_other : FreeCross (arrives 1)
+cross_arrive_of_other = (refl, refl, refl, refl)
+
+-- two crossings here need threads that come to both barriers before they cross one
+abbrev come_to_both : ℕ → List Want
+come_to_both n = Want.Arrive (bar 0) ∷ Want.Arrive (bar 1) ∷ Want.Cross (bar n) ∷ []
+
+abbrev all_came : List Turn
+all_came = by 1 (Label.Arrive (bar 1)) ∷ by 1 (Label.Arrive (bar 0)) ∷ by 0 (Label.Arrive (bar 1)) ∷ by 0 (Label.Arrive (bar 0)) ∷ []
+
+cross_cross_of_other :
+    let first = of_two (come_to_both 0) (come_to_both 1) in
+    IsFree first threads all_came (by 0 (Label.Cross (bar 0) 1)) (by 1 (Label.Cross (bar 1) 1))
+    × IsMade setup first (by 1 (Label.Cross (bar 1) 1) ∷ by 0 (Label.Cross (bar 0) 1) ∷ all_came)
+    × IsMade setup first (by 0 (Label.Cross (bar 0) 1) ∷ by 1 (Label.Cross (bar 1) 1) ∷ all_came)
+cross_cross_of_other = (refl, refl, refl)
+
+-- Clashes: the two would use one cell, and one of them stores to it. In the place of the later one its thread stops, as it may not.
+
+abbrev StopsInstead : Setup → List Want → List Want → List Turn → Label → Label → Type 0
+StopsInstead setup zero one before earlier later =
+    (all_ask setup (of_two zero one) ≡ true)
+    × (clashes earlier later ≡ true)
+    × IsMade setup (of_two zero one) (by 1 (Label.Stop Fault.Unbound 7) ∷ by 0 earlier ∷ before)
+
+abbrev load_it : List Want
+load_it = Want.Load (cell 0) 7 ∷ []
+
+abbrev store_it : List Want
+store_it = Want.Store (cell 0) (pos 1) 7 ∷ []
+
+store_then_load : StopsInstead setup (stores 0).wants load_it (turns_by 0 (stores 0).made) (stores 0).label (Label.Load (cell 0) (pos 5))
+store_then_load = (refl, refl, refl)
+
+load_then_store : StopsInstead setup (loads Mode.Shared 0).wants store_it (turns_by 0 (loads Mode.Shared 0).made) (loads Mode.Shared 0).label (Label.Store (cell 0) (pos 1))
+load_then_store = (refl, refl, refl)
+
+store_then_store : StopsInstead setup (stores 0).wants store_it (turns_by 0 (stores 0).made) (stores 0).label (Label.Store (cell 0) (pos 1))
+store_then_store = (refl, refl, refl)
+
+-- so it is where the other holds the lock too, as both then hold it shared
+shared_load_then_store :
+    StopsInstead setup (loads Mode.Shared 0).wants ((takes Mode.Shared 0).wants ++ store_it) (turns_by 1 (gives Mode.Shared 0).made ++ turns_by 0 (loads Mode.Shared 0).made) (loads Mode.Shared 0).label
+    (Label.Store (cell 0) (pos 1))
+shared_load_then_store = (refl, refl, refl)
+
+-- and with a barrier's cell, in the owner's epochs
+bar_store_then_load : StopsInstead in_even_epochs (Want.Store (cell 0) (pos 5) 1 ∷ []) load_it [] (Label.Store (cell 0) (pos 5)) (Label.Load (cell 0) (pos 5))
+bar_store_then_load = (refl, refl, refl)
+
+bar_load_then_store : StopsInstead in_even_epochs (Want.Load (cell 0) 1 ∷ []) store_it [] (Label.Load (cell 0) (pos 0)) (Label.Store (cell 0) (pos 1))
+bar_load_then_store = (refl, refl, refl)
+
+-- in the other epochs nobody stores, not even the owner, while others load
+bar_load_then_owners_store :
+    (all_ask in_even_epochs (of_two (meeting ++ store_it) (meeting ++ load_it)) ≡ true)
+    × (clashes (Label.Load (cell 0) (pos 0)) (Label.Store (cell 0) (pos 1)) ≡ true)
+    × IsMade in_even_epochs (of_two (meeting ++ store_it) (meeting ++ load_it))
+    (by 0 (Label.Stop Fault.Unbound 7) ∷ by 1 (Label.Load (cell 0) (pos 0)) ∷ by 1 (Label.Cross (bar 0) 1) ∷ by 0 (Label.Cross (bar 0) 1) ∷ both_came)
+bar_load_then_owners_store = (refl, refl, refl)

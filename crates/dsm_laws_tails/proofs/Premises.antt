@@ -1,193 +1,440 @@
--- Cases in which a law would fail without one of its premises, computed by the definitions.
-use Rattle.std.specs.Prelude.{◌≡◌, ℕ, pos, true, List, [], ◌∷◌, Some, None}
-use Rattle.std.proofs.Common.{refl}
+-- Cases in which a law of runs would fail without one of its premises. Each computes the other premises, and what is otherwise than the law says.
+use Rattle.std.specs.Prelude.{◌≡◌, ◌≢◌, ℕ, ℤ, pos, true, false, ◌==◌, nat_le, if◌then◌else◌, List, [], ◌∷◌, Some}
+use Rattle.std.proofs.Common.{arith, refl}
 use Rattle.dsm_base.specs.declared.names.Mode.{Mode}
 use Rattle.dsm_base.specs.declared.label.Label.{Label}
 use Rattle.dsm_base.specs.declared.label.Want.{Want}
 use Rattle.dsm_base.specs.declared.setup.Object.{Object}
+use Rattle.dsm_base.specs.declared.setup.Piece.{Piece}
 use Rattle.dsm_base.specs.declared.setup.Setup.{Setup}
-use Rattle.dsm_base.specs.Access.{may_load}
-use Rattle.dsm_base.specs.Plain.{Turn, after_run, plain_turn, seen_by}
-use Rattle.dsm_laws_runs.specs.Swap.{clashes, IsFree}
-use Rattle.dsm_laws_runs.specs.Versions.{memory_at}
-use Rattle.dsm_laws_tails.proofs.Worked.{threads, the_lock, the_bar, the_cell, they_do, by, AreMade}
+use Rattle.dsm_base.specs.Access.{may_load, piece_of, is_phase}
+use Rattle.dsm_base.specs.Agrees.{is_between}
+use Rattle.dsm_base.specs.Plain.{Turn, after_run, labels_of, plain_turn, seen_by}
+use Rattle.dsm_laws_runs.specs.Barriers.{is_owned, stored_by, until_arrival}
+use Rattle.dsm_laws_runs.specs.Copies.{OwnTurn, HasCopies, AreAdequate, own_labels, newest_copy, memories_of}
+use Rattle.dsm_laws_runs.specs.Epochs.{wants_cross}
+use Rattle.dsm_laws_runs.specs.OwnPart.{arrived_of, crossed_of}
+use Rattle.dsm_laws_runs.specs.Pieces.{is_bar}
+use Rattle.dsm_laws_runs.specs.Swap.{rests_on, clashes, IsFree}
+use Rattle.dsm_laws_tails.proofs.Worked.{threads, the_lock, the_bar, the_cell, of_lock, in_even_epochs, in_odd_epochs, of_two, by, IsMade, IsNoRun, AllAsk}
+use Rattle.dsm_laws_tails.proofs.Checks.{others_are, copies}
 
--- one cell that is bound to the lock
-abbrev pub of_lock : Setup
-of_lock = record {
-  procs = 2;
-  locks = 1;
-  bars = 0;
-  cells = 1;
-  bindings = record {
-    object = Object.Lock the_lock;
-    first = the_cell;
-    count = 1;
-    owner = 0;
-    phase = 0;
-    period = 0;
-  } ∷ [];
-  kept = refl;
-}
-
--- one cell that is bound to the barrier, and is processor 0's in its even epochs
-abbrev in_even_epochs : Setup
-in_even_epochs = record {
-  procs = 2;
-  locks = 0;
-  bars = 1;
-  cells = 1;
-  bindings = record {
-    object = Object.Bar the_bar;
-    first = the_cell;
-    count = 1;
-    owner = 0;
-    phase = 0;
-    period = 2;
-  } ∷ [];
-  kept = refl;
-}
-
--- the same in its odd ones
-abbrev in_odd_epochs : Setup
-in_odd_epochs = record {
-  procs = 2;
-  locks = 0;
-  bars = 1;
-  cells = 1;
-  bindings = record {
-    object = Object.Bar the_bar;
-    first = the_cell;
-    count = 1;
-    owner = 0;
-    phase = 1;
-    period = 2;
-  } ∷ [];
-  kept = refl;
-}
-
--- after these turns the next one of a processor isn't possible
-abbrev CannotGoOn : Setup → (ℕ → List Want) → List Turn → ℕ → Type 0
-CannotGoOn setup first before p = plain_turn setup threads (after_run first threads before) p ≡ None
-
-abbrev takes : Mode → List Want
+abbrev pub takes : Mode → List Want
 takes mode = Want.Ask the_lock mode 1 ∷ Want.Take the_lock mode ∷ []
 
-abbrev come_and_cross : List Want
+abbrev pub come_and_cross : List Want
 come_and_cross = Want.Arrive the_bar ∷ Want.Cross the_bar ∷ []
+
+abbrev store_five : List Want
+store_five = Want.Store the_cell (pos 5) 1 ∷ []
 
 abbrev both_came : List Turn
 both_came = by 1 (Label.Arrive the_bar) ∷ by 0 (Label.Arrive the_bar) ∷ []
 
--- `change_places` of one processor: its take doesn't rest on its ask, and without the ask it asks
-one_processor : let first = they_do (takes Mode.Excl) [] in
-    IsFree first threads [] (by 0 (Label.Ask the_lock Mode.Excl)) (by 0 (Label.Take the_lock Mode.Excl 0))
-    × AreMade of_lock first (by 0 (Label.Take the_lock Mode.Excl 0) ∷ by 0 (Label.Ask the_lock Mode.Excl) ∷ [])
-    × (plain_turn of_lock threads (after_run first threads []) 0 ≡ Some (Label.Ask the_lock Mode.Excl))
-one_processor = (refl, ((tt, refl), refl), refl)
+abbrev pub nothing : ℕ → List Want
+nothing p = []
 
--- `change_places` of threads that don't ask first: 0 holds the lock exclusively and takes it shared; then 1 can take it shared, and not before
-abbrev takes_twice : ℕ → List Want
-takes_twice =
-    they_do (Want.Ask the_lock Mode.Excl 1 ∷ Want.Take the_lock Mode.Excl ∷ Want.Take the_lock Mode.Shared ∷ []) (takes Mode.Shared)
+-- The law `change_places`.
 
-abbrev held_exclusively : List Turn
-held_exclusively =
-    by 0 (Label.Take the_lock Mode.Excl 0) ∷ by 1 (Label.Ask the_lock Mode.Shared) ∷ by 0 (Label.Ask the_lock Mode.Excl) ∷ []
+-- (`free`) of one processor: its take doesn't rest on its ask, and it can't take first
+one_processor : let first = of_two (takes Mode.Excl) [] in
+    AllAsk of_lock first
+    × IsMade of_lock first (by 0 (Label.Take the_lock Mode.Excl 0) ∷ by 0 (Label.Ask the_lock Mode.Excl) ∷ [])
+    × IsFree first threads [] (by 0 (Label.Ask the_lock Mode.Excl)) (by 0 (Label.Take the_lock Mode.Excl 0))
+    × IsNoRun of_lock first (by 0 (Label.Ask the_lock Mode.Excl) ∷ by 0 (Label.Take the_lock Mode.Excl 0) ∷ [])
+one_processor = (refl, refl, refl, refl)
+
+-- (`free`) of threads that don't ask first: 0 holds the lock exclusively and takes it shared; then 1 can take it shared, and not before
+abbrev pub takes_twice : ℕ → List Want
+takes_twice = of_two (Want.Ask the_lock Mode.Excl 1 ∷ Want.Take the_lock Mode.Excl ∷ Want.Take the_lock Mode.Shared ∷ []) (takes Mode.Shared)
+
+abbrev pub held_exclusively : List Turn
+held_exclusively = by 0 (Label.Take the_lock Mode.Excl 0) ∷ by 1 (Label.Ask the_lock Mode.Shared) ∷ by 0 (Label.Ask the_lock Mode.Excl) ∷ []
 
 take_without_ask :
-    IsFree takes_twice threads held_exclusively (by 0 (Label.Take the_lock Mode.Shared 0)) (by 1 (Label.Take the_lock Mode.Shared 0))
-    × AreMade of_lock takes_twice (by 1 (Label.Take the_lock Mode.Shared 0) ∷ by 0 (Label.Take the_lock Mode.Shared 0) ∷ held_exclusively)
-    × CannotGoOn of_lock takes_twice held_exclusively 1
-take_without_ask = (refl, (((((tt, refl), refl), refl), refl), refl), refl)
+    IsMade of_lock takes_twice (by 1 (Label.Take the_lock Mode.Shared 0) ∷ by 0 (Label.Take the_lock Mode.Shared 0) ∷ held_exclusively)
+    × IsFree takes_twice threads held_exclusively (by 0 (Label.Take the_lock Mode.Shared 0)) (by 1 (Label.Take the_lock Mode.Shared 0))
+    × IsNoRun of_lock takes_twice (by 0 (Label.Take the_lock Mode.Shared 0) ∷ by 1 (Label.Take the_lock Mode.Shared 0) ∷ held_exclusively)
+take_without_ask = (refl, refl, refl)
 
--- `no_clashes` of a thread that doesn't cross right after it came: it stores in its epoch, while the other, who has crossed, loads the same cell
+-- (`free`) of turns that nobody makes: neither order is a run
+turns_of_nobody :
+    AllAsk of_lock nothing
+    × IsFree nothing threads [] (by 0 Label.Quiet) (by 1 Label.Quiet)
+    × IsNoRun of_lock nothing (by 1 Label.Quiet ∷ by 0 Label.Quiet ∷ [])
+    × IsNoRun of_lock nothing (by 0 Label.Quiet ∷ by 1 Label.Quiet ∷ [])
+turns_of_nobody = (refl, refl, refl, refl)
+
+-- (`bound`) of one processor: it takes a lock once more that it holds, and gives it back
+take_and_give : let first = of_two (Want.Ask the_lock Mode.Excl 1 ∷ Want.Take the_lock Mode.Excl ∷ Want.Take the_lock Mode.Excl ∷ Want.Give the_lock 1 ∷ []) [] in
+    let before = by 0 (Label.Take the_lock Mode.Excl 0) ∷ by 0 (Label.Ask the_lock Mode.Excl) ∷ [] in
+    IsMade of_lock first (by 0 (Label.Give the_lock) ∷ by 0 (Label.Take the_lock Mode.Excl 0) ∷ before)
+    × (rests_on ((after_run first threads before).held 0) ((after_run first threads before).arrived 0) (Label.Give the_lock) (Label.Take the_lock Mode.Excl 0) ≡ true)
+take_and_give = (refl, refl)
+
+-- (`bound`) of turns that are no run: 0's give of an exclusive hold and 1's take
+abbrev gives_and_takes : ℕ → List Want
+gives_and_takes = of_two (Want.Ask the_lock Mode.Excl 1 ∷ Want.Take the_lock Mode.Excl ∷ Want.Give the_lock 1 ∷ []) (takes Mode.Excl)
+
+abbrev pub held_by_zero : List Turn
+held_by_zero = by 0 (Label.Take the_lock Mode.Excl 0) ∷ by 1 (Label.Ask the_lock Mode.Excl) ∷ by 0 (Label.Ask the_lock Mode.Excl) ∷ []
+
+take_before_the_give : let s = after_run gives_and_takes threads held_by_zero in
+    IsNoRun of_lock gives_and_takes (by 0 (Label.Give the_lock) ∷ by 1 (Label.Take the_lock Mode.Excl 1) ∷ held_by_zero)
+    × (rests_on (s.held 0) (s.arrived 0) (Label.Give the_lock) (Label.Take the_lock Mode.Excl 1) ≡ true)
+take_before_the_give = (refl, refl)
+
+-- The law `no_clashes`.
+
+-- (`at_once`) both can make these turns, and they clash
+abbrev ClashAtOnce : Setup → (ℕ → List Want) → List Turn → ℕ → ℕ → Label → Label → Type 0
+ClashAtOnce setup first run p q one other =
+    (plain_turn setup threads (after_run first threads run) p ≡ Some one)
+    × (plain_turn setup threads (after_run first threads run) q ≡ Some other)
+    × (clashes one other ≡ true)
+
+-- of a thread that doesn't cross right after it came: it stores in its epoch, while the other, who has crossed, loads the same cell
 abbrev stores_before_it_crosses : ℕ → List Want
-stores_before_it_crosses =
-    they_do (Want.Arrive the_bar ∷ Want.Store the_cell (pos 5) 1 ∷ []) (Want.Arrive the_bar ∷ Want.Cross the_bar ∷ Want.Load the_cell 1 ∷ [])
+stores_before_it_crosses = of_two (Want.Arrive the_bar ∷ store_five) (Want.Arrive the_bar ∷ Want.Cross the_bar ∷ Want.Load the_cell 1 ∷ [])
 
 abbrev one_crossed : List Turn
 one_crossed = by 1 (Label.Cross the_bar 1) ∷ both_came
 
 store_before_the_crossing :
-    AreMade in_even_epochs stores_before_it_crosses one_crossed
-    × (plain_turn in_even_epochs threads (after_run stores_before_it_crosses threads one_crossed) 0 ≡ Some (Label.Store the_cell (pos 5)))
-    × (plain_turn in_even_epochs threads (after_run stores_before_it_crosses threads one_crossed) 1 ≡ Some (Label.Load the_cell (pos 0)))
-    × (clashes (Label.Store the_cell (pos 5)) (Label.Load the_cell (pos 0)) ≡ true)
-store_before_the_crossing = ((((tt, refl), refl), refl), refl, refl, refl)
+    IsMade in_even_epochs stores_before_it_crosses one_crossed
+    × ClashAtOnce in_even_epochs stores_before_it_crosses one_crossed 0 1 (Label.Store the_cell (pos 5)) (Label.Load the_cell (pos 0))
+    × IsMade in_even_epochs stores_before_it_crosses (by 1 (Label.Load the_cell (pos 5)) ∷ by 0 (Label.Store the_cell (pos 5)) ∷ one_crossed)
+    × (clashes (Label.Store the_cell (pos 5)) (Label.Load the_cell (pos 5)) ≡ true)
+store_before_the_crossing = (refl, (refl, refl, refl), refl, refl)
 
--- `crossings` of a thread that comes twice: it has come twice more than it crossed
-abbrev comes_twice : ℕ → List Want
-comes_twice = they_do (Want.Arrive the_bar ∷ Want.Arrive the_bar ∷ []) []
+-- of turns that are no run: both take the lock exclusively
+both_take : let first = of_two (Want.Quiet ∷ store_five) (Want.Quiet ∷ store_five) in
+    let run = by 1 (Label.Take the_lock Mode.Excl 0) ∷ by 0 (Label.Take the_lock Mode.Excl 0) ∷ [] in
+    AllAsk of_lock first
+    × IsNoRun of_lock first run
+    × ClashAtOnce of_lock first run 0 1 (Label.Store the_cell (pos 5)) (Label.Store the_cell (pos 5))
+    × IsNoRun of_lock first (by 1 (Label.Store the_cell (pos 5)) ∷ by 0 (Label.Store the_cell (pos 5)) ∷ run)
+both_take = (refl, refl, (refl, refl, refl), refl)
 
-two_arrivals : let run = by 0 (Label.Arrive the_bar) ∷ by 0 (Label.Arrive the_bar) ∷ [] in
-    AreMade in_even_epochs comes_twice run
-    × ((after_run comes_twice threads run).arrived 0 0 ≡ 2)
-    × ((after_run comes_twice threads run).crossed 0 0 ≡ 0)
-two_arrivals = (((tt, refl), refl), refl, refl)
+-- of a processor past the setup: 17 crosses nothing, and may load in epoch 0 what the owner stores in epoch 1
+abbrev seventeen_loads : ℕ → List Want
+seventeen_loads p = if p == 17 then Want.Load the_cell 1 ∷ [] else of_two (Want.Arrive the_bar ∷ Want.Cross the_bar ∷ store_five) come_and_cross p
 
--- `any_order` and `history_goes_on` of tails that aren't independent: 0's give of an exclusive hold and 1's take; without the give, or before it, the take isn't possible
-abbrev gives_and_takes : ℕ → List Want
-gives_and_takes =
-    they_do (Want.Ask the_lock Mode.Excl 1 ∷ Want.Take the_lock Mode.Excl ∷ Want.Give the_lock 1 ∷ []) (takes Mode.Excl)
+abbrev zero_crossed : List Turn
+zero_crossed = by 0 (Label.Cross the_bar 1) ∷ both_came
 
-abbrev held_by_zero : List Turn
-held_by_zero =
-    by 0 (Label.Take the_lock Mode.Excl 0) ∷ by 1 (Label.Ask the_lock Mode.Excl) ∷ by 0 (Label.Ask the_lock Mode.Excl) ∷ []
+load_past_the_setup :
+    AllAsk in_odd_epochs seventeen_loads
+    × IsMade in_odd_epochs seventeen_loads zero_crossed
+    × ClashAtOnce in_odd_epochs seventeen_loads zero_crossed 0 17 (Label.Store the_cell (pos 5)) (Label.Load the_cell (pos 0))
+    × ClashAtOnce in_odd_epochs seventeen_loads zero_crossed 17 0 (Label.Load the_cell (pos 0)) (Label.Store the_cell (pos 5))
+load_past_the_setup = (refl, refl, (refl, refl, refl), (refl, refl, refl))
 
-give_in_one_tail_take_in_another :
-    AreMade of_lock gives_and_takes (by 1 (Label.Take the_lock Mode.Excl 1) ∷ by 0 (Label.Give the_lock) ∷ held_by_zero)
-    × CannotGoOn of_lock gives_and_takes held_by_zero 1
-give_in_one_tail_take_in_another = ((((((tt, refl), refl), refl), refl), refl), refl)
+-- of one processor: it stores twice
+abbrev stores_twice : ℕ → List Want
+stores_twice = of_two (Want.Store the_cell (pos 5) 1 ∷ store_five) []
 
--- `independent` of an arrival that isn't settled: 0's arrival and 1's crossing for that epoch; without the arrival, or before it, 1 can't cross
-arrival_in_one_tail_crossing_in_another : let first = they_do come_and_cross come_and_cross in
-    AreMade in_even_epochs first (by 1 (Label.Cross the_bar 1) ∷ by 0 (Label.Arrive the_bar) ∷ by 1 (Label.Arrive the_bar) ∷ [])
-    × CannotGoOn in_even_epochs first (by 1 (Label.Arrive the_bar) ∷ []) 1
-arrival_in_one_tail_crossing_in_another = ((((tt, refl), refl), refl), refl)
+two_stores_of_one :
+    AllAsk in_even_epochs stores_twice
+    × ClashAtOnce in_even_epochs stores_twice [] 0 0 (Label.Store the_cell (pos 5)) (Label.Store the_cell (pos 5))
+    × IsMade in_even_epochs stores_twice (by 0 (Label.Store the_cell (pos 5)) ∷ by 0 (Label.Store the_cell (pos 5)) ∷ [])
+two_stores_of_one = (refl, (refl, refl, refl), refl)
 
--- `own_copies` of a take that brings nothing: 1 may load the cell, whose value is 5, and its copy has the zero of the start
+-- of a turn that one of both can't make: 0 stores, and 1's store isn't what it would do
+store_of_nobody : let s = after_run stores_twice threads [] in
+    AllAsk in_even_epochs stores_twice
+    × (plain_turn in_even_epochs threads s 0 ≡ Some (Label.Store the_cell (pos 5)))
+    × (plain_turn in_even_epochs threads s 1 ≢ Some (Label.Store the_cell (pos 5)))
+    × (clashes (Label.Store the_cell (pos 5)) (Label.Store the_cell (pos 5)) ≡ true)
+store_of_nobody = (refl, refl, λ e. cc e, refl)
+
+-- The law `crossings`.
+
+-- (`came`) of turns that are no run: a crossing alone; (`in_step`): an arrival alone
+crossing_alone :
+    IsNoRun in_even_epochs nothing (by 0 (Label.Cross the_bar 1) ∷ [])
+    × ((after_run nothing threads (by 0 (Label.Cross the_bar 1) ∷ [])).crossed 0 0 ≡ 1)
+    × ((after_run nothing threads (by 0 (Label.Cross the_bar 1) ∷ [])).arrived 0 0 ≡ 0)
+crossing_alone = (refl, refl, refl)
+
+arrival_alone : let s = after_run nothing threads (by 0 (Label.Arrive the_bar) ∷ []) in
+    AllAsk in_even_epochs nothing
+    × IsNoRun in_even_epochs nothing (by 0 (Label.Arrive the_bar) ∷ [])
+    × (s.arrived 0 0 ≡ 1)
+    × (s.crossed 0 0 ≡ 0)
+    × (wants_cross 0 (threads.want (s.threads 0)) ≡ false)
+arrival_alone = (refl, refl, refl, refl, refl)
+
+-- (`came`) of arrivals past the setup: 0 has crossed, and 17 never comes; (`in_step`): 17 wants to cross at once
+seventeen_never_comes : let first = of_two come_and_cross come_and_cross in
+    IsMade in_even_epochs first zero_crossed
+    × ((after_run first threads zero_crossed).crossed 0 0 ≡ 1)
+    × ((after_run first threads zero_crossed).arrived 17 0 ≡ 0)
+seventeen_never_comes = (refl, refl, refl)
+
+abbrev seventeen_crosses : ℕ → List Want
+seventeen_crosses p = if p == 17 then Want.Cross the_bar ∷ [] else []
+
+crossing_past_the_setup : let s = after_run seventeen_crosses threads [] in
+    AllAsk in_even_epochs seventeen_crosses
+    × (s.arrived 17 0 ≡ 0)
+    × (s.crossed 17 0 ≡ 0)
+    × (wants_cross 0 (threads.want (s.threads 17)) ≡ true)
+crossing_past_the_setup = (refl, refl, refl, refl)
+
+-- (`in_step`) of a thread that comes twice: it has come twice more than it crossed
+two_arrivals : let first = of_two (Want.Arrive the_bar ∷ Want.Arrive the_bar ∷ []) [] in
+    let run = by 0 (Label.Arrive the_bar) ∷ by 0 (Label.Arrive the_bar) ∷ [] in
+    IsMade in_even_epochs first run
+    × ((after_run first threads run).arrived 0 0 ≡ 2)
+    × ((after_run first threads run).crossed 0 0 ≡ 0)
+two_arrivals = (refl, refl, refl)
+
+-- The law `barrier_cells`.
+
+-- (`memory`) of turns that are no run: 1 stores to 0's cell
+store_by_another :
+    IsNoRun in_even_epochs nothing (by 1 (Label.Store the_cell (pos 5)) ∷ [])
+    × (is_owned 0 0 (piece_of in_even_epochs.bindings 0) ≡ true)
+    × ((after_run nothing threads (by 1 (Label.Store the_cell (pos 5)) ∷ [])).memory 0 ≡ pos 5)
+    × (stored_by (labels_of 0 (by 1 (Label.Store the_cell (pos 5)) ∷ [])) 0 ≡ pos 0)
+store_by_another = (refl, refl, refl, refl)
+
+-- (`memory`) of one who doesn't own the cell: 0 stores to its own, and 1 has stored nothing
+abbrev zero_stored : List Turn
+zero_stored = by 0 (Label.Store the_cell (pos 5)) ∷ []
+
+not_the_owner : let first = of_two store_five [] in
+    IsMade in_even_epochs first zero_stored
+    × (is_owned 0 1 (piece_of in_even_epochs.bindings 0) ≡ false)
+    × ((after_run first threads zero_stored).memory 0 ≡ pos 5)
+    × (stored_by (labels_of 1 zero_stored) 0 ≡ pos 0)
+not_the_owner = (refl, refl, refl, refl)
+
+-- (`kept`) of an epoch for which the owner hasn't come: what it then stores counts
+not_yet_come : let newer = Label.Arrive the_bar ∷ Label.Store the_cell (pos 5) ∷ [] in
+    (arrived_of [] 0 ≡ 0) × (until_arrival 0 1 newer ≡ newer) × (until_arrival 0 1 [] ≡ [])
+not_yet_come = (refl, refl, refl)
+
+-- (`quiet`) what a processor has stored isn't what it had stored when it came for the epoch
+abbrev StoredLater : List Turn → ℕ → ℕ → Type 0
+StoredLater run bar epoch = (stored_by (labels_of 0 run) 0 ≡ pos 5) × (stored_by (until_arrival bar epoch (labels_of 0 run)) 0 ≡ pos 0)
+
+-- whether its other premises hold of a piece and epoch: the cell's piece, the barrier, none of the phases, no later crossing
+abbrev AreQuiet : Setup → List Turn → ℕ → ℕ → Piece → Type 0
+AreQuiet setup run bar epoch piece =
+    (piece_of setup.bindings 0 ≡ Some piece) × (is_bar bar piece.object ≡ true) × (is_phase piece epoch ≡ false) × (nat_le (crossed_of (labels_of 0 run) bar) epoch ≡ true)
+
+abbrev in_even : Piece
+in_even = record { object = Object.Bar the_bar; first = the_cell; count = 1; owner = 0; phase = 0; period = 2 }
+
+abbrev in_odd : Piece
+in_odd = record { object = Object.Bar the_bar; first = the_cell; count = 1; owner = 0; phase = 1; period = 2 }
+
+abbrev stored_and_came : List Turn
+stored_and_came = by 0 (Label.Store the_cell (pos 5)) ∷ by 0 (Label.Arrive the_bar) ∷ []
+
+-- of a thread that doesn't cross right after it came: it stores after its arrival for epoch 1
+stored_after_its_arrival :
+    IsMade in_even_epochs stores_before_it_crosses stored_and_came
+    × AreQuiet in_even_epochs stored_and_came 0 1 in_even
+    × StoredLater stored_and_came 0 1
+stored_after_its_arrival = (refl, (refl, refl, refl, refl), (refl, refl))
+
+-- of turns that are no run
+stored_by_nobody :
+    AllAsk in_even_epochs nothing
+    × IsNoRun in_even_epochs nothing stored_and_came
+    × AreQuiet in_even_epochs stored_and_came 0 1 in_even
+    × StoredLater stored_and_came 0 1
+stored_by_nobody = (refl, refl, (refl, refl, refl, refl), (refl, refl))
+
+-- of a piece that isn't the cell's: the cell is the lock's
+abbrev stored_under_the_lock : List Turn
+stored_under_the_lock = by 0 (Label.Store the_cell (pos 5)) ∷ by 0 (Label.Take the_lock Mode.Excl 0) ∷ by 0 (Label.Ask the_lock Mode.Excl) ∷ []
+
+another_piece : let first = of_two (Want.Ask the_lock Mode.Excl 1 ∷ Want.Take the_lock Mode.Excl ∷ store_five) [] in
+    AllAsk of_lock first
+    × IsMade of_lock first stored_under_the_lock
+    × (is_bar 0 in_odd.object ≡ true)
+    × (is_phase in_odd 0 ≡ false)
+    × (crossed_of (labels_of 0 stored_under_the_lock) 0 ≡ 0)
+    × StoredLater stored_under_the_lock 0 0
+another_piece = (refl, refl, refl, refl, refl, (refl, refl))
+
+-- of another barrier, of which the owner has crossed none
+abbrev owner_stores : ℕ → List Want
+owner_stores = of_two (Want.Arrive the_bar ∷ Want.Cross the_bar ∷ store_five) come_and_cross
+
+abbrev stored_in_its_epoch : List Turn
+stored_in_its_epoch = by 0 (Label.Store the_cell (pos 5)) ∷ zero_crossed
+
+another_barrier :
+    AllAsk in_odd_epochs owner_stores
+    × IsMade in_odd_epochs owner_stores stored_in_its_epoch
+    × (piece_of in_odd_epochs.bindings 0 ≡ Some in_odd)
+    × (is_bar 1 in_odd.object ≡ false)
+    × (is_phase in_odd 0 ≡ false)
+    × (crossed_of (labels_of 0 stored_in_its_epoch) 1 ≡ 0)
+    × StoredLater stored_in_its_epoch 1 0
+another_barrier = (refl, refl, refl, refl, refl, refl, (refl, refl))
+
+-- of an epoch that is one of the owner's
+epoch_of_the_owner : let first = of_two store_five [] in
+    AllAsk in_even_epochs first
+    × IsMade in_even_epochs first zero_stored
+    × (piece_of in_even_epochs.bindings 0 ≡ Some in_even)
+    × (is_bar 0 in_even.object ≡ true)
+    × (is_phase in_even 0 ≡ true)
+    × (crossed_of (labels_of 0 zero_stored) 0 ≡ 0)
+    × StoredLater zero_stored 0 0
+epoch_of_the_owner = (refl, refl, refl, refl, refl, refl, (refl, refl))
+
+-- of an epoch that is over
+epoch_that_is_over :
+    AllAsk in_odd_epochs owner_stores
+    × IsMade in_odd_epochs owner_stores stored_in_its_epoch
+    × (piece_of in_odd_epochs.bindings 0 ≡ Some in_odd)
+    × (is_bar 0 in_odd.object ≡ true)
+    × (is_phase in_odd 0 ≡ false)
+    × (crossed_of (labels_of 0 stored_in_its_epoch) 0 ≡ 1)
+    × StoredLater stored_in_its_epoch 0 0
+epoch_that_is_over = (refl, refl, refl, refl, refl, refl, (refl, refl))
+
+-- Copies.
+
+abbrev pub zeros : ℕ → ℤ
+zeros cell = pos 0
+
+abbrev pub ones : ℕ → ℤ
+ones cell = pos 1
+
+pub one_isnt_zero : pos 1 ≢ pos 0
+one_isnt_zero e = cc e
+
+-- The law `own_copies`: one may load the cell, its copy has a zero there, and the memory has a 5.
+
+abbrev HasStale : Setup → (ℕ → List Want) → List Turn → ℕ → List OwnTurn → Type 0
+HasStale setup first run p turns =
+    (labels_of p run ≡ own_labels turns)
+    × (may_load setup.bindings p (seen_by (after_run first threads run) p).rights 0 ≡ true)
+    × (is_between setup.bindings (after_run first threads run) p 0 ≡ false)
+    × (newest_copy turns 0 ≡ pos 0)
+    × ((after_run first threads run).memory 0 ≡ pos 5)
+
+-- of a take that brings nothing
 abbrev stores_and_takes : ℕ → List Want
-stores_and_takes =
-    they_do (Want.Ask the_lock Mode.Excl 1 ∷ Want.Take the_lock Mode.Excl ∷ Want.Store the_cell (pos 5) 1 ∷ Want.Give the_lock 1 ∷ [])
-    (takes Mode.Shared)
+stores_and_takes = of_two (Want.Ask the_lock Mode.Excl 1 ∷ Want.Take the_lock Mode.Excl ∷ Want.Store the_cell (pos 5) 1 ∷ Want.Give the_lock 1 ∷ []) (takes Mode.Shared)
 
 abbrev taken_after_the_store : List Turn
 taken_after_the_store =
     by 1 (Label.Take the_lock Mode.Shared 1) ∷ by 1 (Label.Ask the_lock Mode.Shared) ∷ by 0 (Label.Give the_lock)
     ∷ by 0 (Label.Store the_cell (pos 5)) ∷ by 0 (Label.Take the_lock Mode.Excl 0) ∷ by 0 (Label.Ask the_lock Mode.Excl) ∷ []
 
-take_that_brings_nothing : let s = after_run stores_and_takes threads taken_after_the_store in
-    AreMade of_lock stores_and_takes taken_after_the_store
-    × (may_load of_lock.bindings 1 (seen_by s 1).rights 0 ≡ true)
-    × (s.memory 0 ≡ pos 5)
-take_that_brings_nothing = (((((((tt, refl), refl), refl), refl), refl), refl), refl, refl)
+abbrev asked_and_took : List OwnTurn
+asked_and_took = record { label = Label.Take the_lock Mode.Shared 1; copy = zeros } ∷ record { label = Label.Ask the_lock Mode.Shared; copy = zeros } ∷ []
 
--- `own_copies` of a processor past the setup: 17 crosses nothing, may load the cell, and its copy has the zero of the start
-abbrev owner_stores : ℕ → List Want
-owner_stores = they_do (Want.Arrive the_bar ∷ Want.Cross the_bar ∷ Want.Store the_cell (pos 5) 1 ∷ []) come_and_cross
+take_that_brings_nothing :
+    AllAsk of_lock stores_and_takes
+    × IsMade of_lock stores_and_takes taken_after_the_store
+    × HasStale of_lock stores_and_takes taken_after_the_store 1 asked_and_took
+take_that_brings_nothing = (refl, refl, (refl, refl, refl, refl, refl))
 
-abbrev stored_in_its_epoch : List Turn
-stored_in_its_epoch = by 0 (Label.Store the_cell (pos 5)) ∷ by 0 (Label.Cross the_bar 1) ∷ both_came
+-- of a processor past the setup
+processor_past_the_setup :
+    AllAsk in_odd_epochs owner_stores
+    × IsMade in_odd_epochs owner_stores stored_in_its_epoch
+    × AreAdequate in_odd_epochs (memories_of in_odd_epochs owner_stores threads stored_in_its_epoch) 17 []
+    × HasStale in_odd_epochs owner_stores stored_in_its_epoch 17 []
+processor_past_the_setup = (refl, refl, tt, (refl, refl, refl, refl, refl))
 
-processor_past_the_setup : let s = after_run owner_stores threads stored_in_its_epoch in
-    AreMade in_odd_epochs owner_stores stored_in_its_epoch
-    × (may_load in_odd_epochs.bindings 17 (seen_by s 17).rights 0 ≡ true)
-    × (s.memory 0 ≡ pos 5)
-processor_past_the_setup = (((((tt, refl), refl), refl), refl), refl, refl)
+-- The law `copies_go_on`: 0 and 1 each have a quiet turn.
 
--- `one_tail` of a version that the tail doesn't make: 0's tail gives the lock back and makes version 1; with 1's tail alone there is none
-abbrev pub makes_a_version : ℕ → List Want
-makes_a_version =
-    they_do (Want.Ask the_lock Mode.Excl 1 ∷ Want.Take the_lock Mode.Excl ∷ Want.Store the_cell (pos 5) 1 ∷ Want.Give the_lock 1 ∷ []) (Want.Quiet ∷ [])
+abbrev pub quiet_each : ℕ → List Want
+quiet_each = of_two (Want.Quiet ∷ []) (Want.Quiet ∷ [])
 
-abbrev before_the_give : List Turn
-before_the_give =
-    by 0 (Label.Store the_cell (pos 5)) ∷ by 0 (Label.Take the_lock Mode.Excl 0) ∷ by 0 (Label.Ask the_lock Mode.Excl) ∷ []
+abbrev quiet_zero : List Turn
+quiet_zero = by 0 Label.Quiet ∷ []
 
-version_of_another_tail :
-    AreMade of_lock makes_a_version (by 1 Label.Quiet ∷ by 0 (Label.Give the_lock) ∷ before_the_give)
-    × AreMade of_lock makes_a_version (by 1 Label.Quiet ∷ before_the_give)
-    × (memory_at makes_a_version threads (by 1 Label.Quiet ∷ by 0 (Label.Give the_lock) ∷ before_the_give) 0 1 0 ≡ pos 5)
-    × (memory_at makes_a_version threads (by 1 Label.Quiet ∷ before_the_give) 0 1 0 ≡ pos 0)
-version_of_another_tail = ((((((tt, refl), refl), refl), refl), refl), ((((tt, refl), refl), refl), refl), refl, refl)
+abbrev pub quiet_copies : List OwnTurn
+quiet_copies = record { label = Label.Quiet; copy = zeros } ∷ []
+
+abbrev pub wrong_copies : List OwnTurn
+wrong_copies = record { label = Label.Quiet; copy = ones } ∷ []
+
+-- (`alike`, `other`, `own`) of copies that aren't as they should be: a quiet turn has changed a cell, and so it is in the same run, with a turn of 1 more, or with an own one that is as it should be
+wrong_copies_go_on :
+    AllAsk of_lock quiet_each
+    × IsMade of_lock quiet_each quiet_zero
+    × (labels_of 0 quiet_zero ≡ own_labels wrong_copies)
+    × (AreAdequate of_lock (memories_of of_lock quiet_each threads quiet_zero) 0 wrong_copies → ⊥)
+    × (AreAdequate of_lock (memories_of of_lock quiet_each threads (by 1 Label.Quiet ∷ quiet_zero)) 0 wrong_copies → ⊥)
+wrong_copies_go_on = (refl, refl, refl, λ are. one_isnt_zero (are.1 0), λ are. one_isnt_zero (are.1 0))
+
+-- (`alike`) of a list that is no run, in which each makes the same turns: 1 takes the lock before 0 gives it back
+abbrev taken_after_the_give : List Turn
+taken_after_the_give = by 1 (Label.Take the_lock Mode.Excl 1) ∷ by 0 (Label.Give the_lock) ∷ held_by_zero
+
+abbrev taken_before_the_give : List Turn
+taken_before_the_give = by 0 (Label.Give the_lock) ∷ by 1 (Label.Take the_lock Mode.Excl 1) ∷ held_by_zero
+
+abbrev copies_that_took : List OwnTurn
+copies_that_took = record { label = Label.Take the_lock Mode.Excl 1; copy = zeros } ∷ record { label = Label.Ask the_lock Mode.Excl; copy = zeros } ∷ []
+
+copies_in_no_run :
+    HasCopies of_lock gives_and_takes threads taken_after_the_give 1 copies_that_took
+    × ((p : ℕ) → labels_of p taken_before_the_give ≡ labels_of p taken_after_the_give)
+    × IsNoRun of_lock gives_and_takes taken_before_the_give
+copies_in_no_run = (
+  copies of_lock gives_and_takes taken_after_the_give 1 copies_that_took refl refl refl refl ((tt, λ cell. refl), record { inside = λ cell is. refl; outside = λ cell is. refl }),
+  λ p. same p,
+  refl,
+)
+  where
+    same : (p : ℕ) → labels_of p taken_before_the_give ≡ labels_of p taken_after_the_give
+    same p = grind arith
+
+-- (`alike`) of a run with other labels, (`other`) of an own turn, (`own`) of another's: the labels aren't those of the copies
+copies_of_other_labels :
+    HasCopies of_lock quiet_each threads quiet_zero 0 quiet_copies
+    × HasCopies of_lock quiet_each threads [] 0 []
+    × (labels_of 0 [] ≢ own_labels quiet_copies)
+    × (labels_of 0 quiet_zero ≢ own_labels [])
+    × (labels_of 0 (by 1 Label.Quiet ∷ []) ≢ own_labels quiet_copies)
+copies_of_other_labels = (
+  copies of_lock quiet_each quiet_zero 0 quiet_copies refl refl refl refl (tt, λ cell. refl),
+  copies of_lock quiet_each [] 0 [] refl refl refl refl tt,
+  others_are [] (own_labels quiet_copies) refl,
+  others_are (labels_of 0 quiet_zero) [] refl,
+  others_are [] (own_labels quiet_copies) refl,
+)
+
+-- (`other`, `own`) of a turn that its processor doesn't make: there is no run
+copies_after_no_turn :
+    HasCopies of_lock quiet_each threads [] 0 []
+    × IsNoRun of_lock quiet_each (by 1 Label.End ∷ [])
+    × IsNoRun of_lock quiet_each (by 0 Label.End ∷ [])
+copies_after_no_turn = (copies of_lock quiet_each [] 0 [] refl refl refl refl tt, refl, refl)
+
+-- (`own`) of a copy that its turn doesn't renew as it should: 0 stores 5, and its copy keeps the zero
+abbrev holds_and_stores : ℕ → List Want
+holds_and_stores = of_two (Want.Ask the_lock Mode.Excl 1 ∷ Want.Take the_lock Mode.Excl ∷ store_five) []
+
+abbrev asked_and_holds : List Turn
+asked_and_holds = by 0 (Label.Take the_lock Mode.Excl 0) ∷ by 0 (Label.Ask the_lock Mode.Excl) ∷ []
+
+abbrev copies_that_hold : List OwnTurn
+copies_that_hold = record { label = Label.Take the_lock Mode.Excl 0; copy = zeros } ∷ record { label = Label.Ask the_lock Mode.Excl; copy = zeros } ∷ []
+
+store_that_sets_nothing : let after = by 0 (Label.Store the_cell (pos 5)) ∷ asked_and_holds in
+    HasCopies of_lock holds_and_stores threads asked_and_holds 0 copies_that_hold
+    × IsMade of_lock holds_and_stores after
+    × (AreAdequate of_lock (memories_of of_lock holds_and_stores threads after) 0 (record { label = Label.Store the_cell (pos 5); copy = zeros } ∷ copies_that_hold) → ⊥)
+store_that_sets_nothing = (
+  copies of_lock holds_and_stores asked_and_holds 0 copies_that_hold refl refl refl refl ((tt, λ cell. refl), record { inside = λ cell is. refl; outside = λ cell is. refl }),
+  refl,
+  λ are. none (are.1 0),
+)
+  where
+    none : pos 0 ≢ pos 5
+    none e = cc e
