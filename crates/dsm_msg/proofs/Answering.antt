@@ -9,14 +9,16 @@ use Rattle.dsm_msg.specs.declared.error.MsgErr.TheVariants as errors
 use Rattle.dsm_msg.specs.declared.message.Carry.{Carry}
 use Rattle.dsm_msg.specs.declared.message.Msg.{Msg}
 use Rattle.dsm_msg.specs.declared.message.Body.{Body}
-use Rattle.dsm_msg.specs.Fields.{Field, byte, are_fit, are_held, bytes_of, Any, Breaks}
-use Rattle.dsm_msg.specs.Spelling.{carry_fields, body_fields, message_fields, spelling, IsMessage, are_kept, kind_of, is_kind, is_proc, is_other}
-use Rattle.dsm_msg.specs.Reading.{Cut, Broken, Read, then_with, kept, byte_at, carry_at, body_at, message_at}
+use Rattle.dsm_fields.specs.Fields.{Field, byte, bytes_of, Any, Breaks}
+use Rattle.dsm_msg.specs.Spelling.{carry_fields, body_fields, message_fields, spelling, IsMessage, kind_of, is_kind, is_proc, is_other}
+use Rattle.dsm_fields.specs.Reading.{Cut, Broken, Read, then_with, kept, byte_at}
+use Rattle.dsm_msg.specs.Reading.{carry_at, body_at, message_at}
 use Rattle.dsm_msg.specs.Answers.{answer_of, fault_of, IsAnswer, OrMemory}
-use Rattle.dsm_msg.proofs.Exact.{Exact, both_true, same_read}
-use Rattle.dsm_msg.proofs.Chain.{At, chain}
-use Rattle.dsm_msg.proofs.Numbers.{byte_exact, some_byte}
-use Rattle.dsm_msg.proofs.Grammar.{step, put, rest_of, known, carry_exact}
+use Rattle.dsm_fields.proofs.Exact.{Exact, same_read}
+use Rattle.dsm_fields.proofs.Chain.{At, chain}
+use Rattle.dsm_fields.proofs.Numbers.{byte_exact, some_byte}
+use Rattle.dsm_fields.proofs.Steps.{step, put, rest_of, known}
+use Rattle.dsm_msg.proofs.Grammar.{carry_exact}
 use Rattle.dsm_msg.proofs.Bodies.{of_kind, body_exact, kind_in_range}
 
 abbrev no_carry : Carry
@@ -111,7 +113,7 @@ fits_read bytes (Ok (msg, [])) small e =
 fits_read bytes (Ok (msg, byte ∷ rest)) small e =
     let t = message_exact.took bytes msg (byte ∷ rest) small e in
     record { msg = msg; message = t.fit; rest = byte ∷ rest; parts = t.parts; counts = refl; some = omega arith }
-fits_read bytes (Err Cut) small e = message_exact.cut bytes small e
+fits_read bytes (Err (Cut left)) small e = record { left = left; cut = message_exact.cut bytes left small e }
 fits_read bytes (Err (Broken left)) small e = at_fault bytes left small e
 
 -- what reading gives fits the bytes
@@ -137,7 +139,7 @@ pub only_answer : (answer : Result Msg MsgErr) (bytes : List ℕ) → IsBytes by
 only_answer (Ok msg) bytes small fits =
     let read : message_at bytes ≡ Ok (msg, []) = ap message_at (fits.spelled ∙ sym (append-nil (spelling msg))) ∙ message_exact.again msg [] tt fits.message in
     ap (answer_of bytes) read
-only_answer (Err errors.Short) bytes small fits = ap (answer_of bytes) (message_exact.ends bytes small fits)
+only_answer (Err errors.Short) bytes small fits = ap (answer_of bytes) (message_exact.ends bytes fits.left small fits.cut)
 only_answer (Err (errors.BadKind kind)) bytes small fits =
     let read : message_at bytes ≡ Err (Broken (length (kind ∷ fits.rest))) = ap message_at fits.parts ∙ bad_kind kind fits.rest fits.no_kind in
     ap (answer_of bytes) read ∙ ap (λ (w : List ℕ). let answer : Result Msg MsgErr = Err (fault_of w (length (kind ∷ fits.rest))) in answer) fits.parts ∙ ap (λ (e : MsgErr). let answer : Result Msg MsgErr = Err e in answer) (kind_fault kind fits.rest)
@@ -153,14 +155,6 @@ pub no_prefix : (a b : Msg) (rest : List ℕ) → IsMessage a → IsMessage b �
 no_prefix a b rest fita fitb e =
     same_read (message_at (spelling a ++ rest)) a b rest [] (message_exact.again a rest tt fita)
     (ap message_at (e ∙ sym (append-nil (spelling b))) ∙ message_exact.again b [] tt fitb)
-
--- fields that keep their ranges and have room are fit
-pub fit_fields : (fields : List Field) → are_held fields ≡ true → are_kept fields ≡ true → are_fit fields ≡ true
-fit_fields [] held kept = refl
-fit_fields (field ∷ fields) held kept =
-    let h = both_true field.holds (are_held fields) held in
-    let k = both_true field.keeps (are_kept fields) kept in
-    rw (h.0, k.0, fit_fields fields h.1 k.1) refl
 
 -- ---- out of memory, or else
 

@@ -13,17 +13,19 @@ use Rattle.dsm_msg.specs.declared.message.Body.{Body}
 use Rattle.dsm_msg.specs.declared.message.Body.TheVariants as bodies
 use Rattle.dsm_msg.specs.declared.message.Body.TheOpen as layer
 use Rattle.dsm_msg.specs.declared.message.Body.TheViews.{out-Body, roll-Body, roll-out-Body}
-use Rattle.dsm_msg.specs.Fields.{Any, Field, number, byte, is_over, entries, counted}
-use Rattle.dsm_msg.specs.Spelling.{Layer, line_fields, lock_number_fields, bar_number_fields, turn_body_fields, report_fields, asking_fields, layer_fields, body_fields, kind_of, kind_of_layer, mode_number, may_give, is_kind, is_asking}
-use Rattle.dsm_msg.specs.Reading.{Read, then_with, kept, number_at, byte_at, mode_at, counted_at, entries_at, line_at, lock_number_at, bar_number_at, turn_body_at, req_at, grant_body_at, given_at, release_at, arrive_at, opened_at, asking_at, resync_at, report_body_at, pruned_at, body_at}
+use Rattle.dsm_fields.specs.Fields.{Any, Field, number, byte, mode_number, is_over, entries, counted}
+use Rattle.dsm_msg.specs.Spelling.{Layer, line_fields, lock_number_fields, bar_number_fields, turn_body_fields, report_fields, asking_fields, layer_fields, body_fields, kind_of, kind_of_layer, may_give, is_kind, is_asking}
+use Rattle.dsm_fields.specs.Reading.{Read, then_with, kept, number_at, byte_at, mode_at, counted_at, entries_at}
+use Rattle.dsm_msg.specs.Reading.{line_at, lock_number_at, bar_number_at, turn_body_at, req_at, grant_body_at, given_at, release_at, arrive_at, opened_at, asking_at, resync_at, report_body_at, pruned_at, body_at}
 use Rattle.std.proofs.lemmas.Bool.{leb-true}
 use Rattle.std.proofs.lemmas.Bool.Decides.{nat_tests}
-use Rattle.dsm_msg.proofs.Exact.{Exact, done, both_true}
-use Rattle.dsm_msg.proofs.Chain.{At, chain}
-use Rattle.dsm_msg.proofs.Formats.{Has, reworded, of_part, listed, counted_list}
+use Rattle.dsm_fields.proofs.Exact.{Exact, done, both_true}
+use Rattle.dsm_fields.proofs.Chain.{At, chain}
+use Rattle.dsm_fields.proofs.Formats.{Has, reworded, of_part, listed, counted_list}
 use Rattle.dsm_msg.proofs.Layers.{out_req, out_grant, out_release, out_arrive, out_opened, out_note, out_ack, out_resync, out_report, out_pruned}
-use Rattle.dsm_msg.proofs.Numbers.{number_exact, any_number, any_byte, some_byte, mode_exact}
-use Rattle.dsm_msg.proofs.Grammar.{step, put, rest_of, known, no_line, line_exact, lines_exact, lock_number_exact, bar_number_exact, report_exact}
+use Rattle.dsm_fields.proofs.Numbers.{number_exact, any_number, any_byte, some_byte, mode_exact}
+use Rattle.dsm_fields.proofs.Steps.{step, put, rest_of, known}
+use Rattle.dsm_msg.proofs.Grammar.{no_line, line_exact, lines_exact, lock_number_exact, bar_number_exact, report_exact}
 
 abbrev pub IsKind : ℕ → Body → Type 0
 IsKind kind body = kind_of body ≡ kind

@@ -1,5 +1,5 @@
 -- Each format of a message has an exact reader.
-use Rattle.std.proofs.Common.{replicate, ◌≡◌, ℕ, ℤ, pos, Bool, true, false, List, [], ◌∷◌, ◌++◌, length, Option, None, option_map, Ok, refl, ap}
+use Rattle.std.proofs.Common.{replicate, ℕ, ℤ, pos, Bool, true, false, List, [], ◌∷◌, length, Option, None, option_map, refl, ap}
 use Rattle.std.specs.Prelude.{◌&&◌, ◌||◌, ◌==◌, not, nat_le}
 use Rattle.std.proofs.lemmas.List.{length-replicate}
 use Rattle.dsm_base.specs.declared.names.Mode.{Mode}
@@ -17,22 +17,15 @@ use Rattle.dsm_lines.specs.declared.of_objects.Version.{Version}
 use Rattle.dsm_lines.specs.declared.of_objects.Arrival.{Arrival}
 use Rattle.dsm_msg.specs.declared.message.Carry.{Carry}
 use Rattle.dsm_msg.specs.declared.message.Report.{Report}
-use Rattle.dsm_msg.specs.Fields.{Any, Field, number, is_over, counted}
-use Rattle.dsm_msg.specs.Spelling.{record_fields, pending_fields, grant_fields, opening_fields, bar_stand_fields, lock_number_fields, bar_number_fields, lock_stand_fields, value_fields, line_fields, version_fields, arrival_fields, carry_fields, report_fields, is_from, is_second_over, version_place, arrival_place}
-use Rattle.dsm_msg.specs.Reading.{Read, then_with, counted_at, value_at, record_at, pending_at, grant_at, opening_at, bar_stand_at, lock_number_at, bar_number_at, lock_stand_at, line_at, version_at, arrival_at, carry_at, report_at}
-use Rattle.dsm_msg.proofs.Exact.{Exact, done}
-use Rattle.dsm_msg.proofs.Chain.{At, chain}
-use Rattle.dsm_msg.proofs.Formats.{reworded, of_part, listed, counted_list}
-use Rattle.dsm_msg.proofs.Numbers.{number_exact, any_number, byte_exact, any_byte, mode_exact, bool_exact, signed_exact, text_exact}
-
--- any value of the first, and then the second
-pub step : {A Z : Type 0} {fa : A → List Field} {ra : List ℕ → Read A} {Is : Z → Type 0} {from : Z → A} {fb : Z → List Field} {rb : A → List ℕ → Read Z}
-    → Exact Any fa ra → ((a : A) → Exact (At Is from a) fb (rb a)) → ((a : A) → (z : Z) × At Is from a z)
-    → Exact Is (λ z. fa (from z) ++ fb z) (λ bytes. then_with (ra bytes) rb)
-step {A} {Z} {fa} {ra} {Is} {from} {fb} {rb} ea eb some = chain Any fa ra Is from fb rb ea (λ a is fit. eb a) (λ a is. some a) (λ z is. tt)
-
-pub put : {A Z : Type 0} {Is : Z → Type 0} {from : Z → A} {z : Z} → Is z → At Is from (from z) z
-put is = record { is = is; same = refl }
+use Rattle.dsm_fields.specs.Fields.{Any, number, are_printable, is_over, is_from, is_second_over, counted}
+use Rattle.dsm_msg.specs.Spelling.{record_fields, pending_fields, grant_fields, opening_fields, bar_stand_fields, lock_number_fields, bar_number_fields, lock_stand_fields, value_fields, line_fields, version_fields, arrival_fields, carry_fields, report_fields, version_place, arrival_place}
+use Rattle.dsm_fields.specs.Reading.{counted_at}
+use Rattle.dsm_msg.specs.Reading.{value_at, record_at, pending_at, grant_at, opening_at, bar_stand_at, lock_number_at, bar_number_at, lock_stand_at, line_at, version_at, arrival_at, carry_at, report_at}
+use Rattle.dsm_fields.proofs.Exact.{Exact, done}
+use Rattle.dsm_fields.proofs.Chain.{At}
+use Rattle.dsm_fields.proofs.Formats.{listed, counted_list}
+use Rattle.dsm_fields.proofs.Numbers.{number_exact, any_number, byte_exact, any_byte, mode_exact, bool_exact, any_signed, text_exact}
+use Rattle.dsm_fields.proofs.Steps.{step, put, rest_of, known}
 
 pub record_exact : (last : Option Record) → Exact Any (record_fields last) (record_at last)
 unfolding record_at
@@ -46,22 +39,6 @@ record_exact last =
     (λ version. (made turn lock version, put (put (put tt)))))
     (λ lock. (made turn lock 0, put (put tt))))
     (λ turn. (made turn 0 0, put tt))
-
--- some values of the first, and then the second
-pub step_of : {A Z : Type 0} {IsA : A → Type 0} {fa : A → List Field} {ra : List ℕ → Read A} {Is : Z → Type 0} {from : Z → A} {fb : Z → List Field} {rb : A → List ℕ → Read Z}
-    → Exact IsA fa ra → ((a : A) → IsA a → Exact (At Is from a) fb (rb a)) → ((a : A) → IsA a → (z : Z) × At Is from a z) → ((z : Z) → Is z → IsA (from z))
-    → Exact Is (λ z. fa (from z) ++ fb z) (λ bytes. then_with (ra bytes) rb)
-step_of {A} {Z} {IsA} {fa} {ra} {Is} {from} {fb} {rb} ea eb some isa = chain IsA fa ra Is from fb rb ea (λ a is fit. eb a is) some isa
-
--- the last part of a value
-pub rest_of : {A Z : Type 0} {IsA : A → Type 0} {fa : A → List Field} {ra : List ℕ → Read A} (Is : Z → Type 0) (from : Z → A) (make : A → Z)
-    → Exact IsA fa ra → ((a : A) → IsA a → Is (make a)) → ((a : A) → from (make a) ≡ a) → ((z : Z) → Is z → IsA (from z)) → ((z : Z) → Is z → z ≡ make (from z))
-    → Exact Is (λ z. fa (from z)) (λ bytes. then_with (ra bytes) (λ a rest. Ok (make a, rest)))
-rest_of {A} {Z} {IsA} {fa} {ra} Is from make = of_part IsA fa ra Is from make
-
--- the fields of a part that depend on what is known
-pub known : {Z : Type 0} {Is : Z → Type 0} (f : Z → List Field) {g : Z → List Field} {read : List ℕ → Read Z} → ((z : Z) → Is z → f z ≡ g z) → Exact Is g read → Exact Is f read
-known {Z} {Is} f {g} {read} same e = reworded Is Is g f read (λ z is. is) (λ z is. is) same e
 
 pub grant_exact : (last : Option LoggedGrant) → Exact Any (grant_fields last) (grant_at last)
 unfolding grant_at
@@ -149,7 +126,7 @@ pending_exact last =
     let made : ℕ → List ℕ → PendingLine = (λ turn bytes. record { turn = turn; text = bytes }) in
     step (number_exact 4 (is_over (option_map (λ r. r.turn) last)))
     (λ turn. step (number_exact 2 (λ count. nat_le count 256))
-    (λ count. rest_of (At (At Any (λ r. r.turn) turn) (λ r. length r.text) count) (λ r. r.text) (made turn) (text_exact count)
+    (λ count. rest_of (At (At Any (λ r. r.turn) turn) (λ r. length r.text) count) (λ r. r.text) (made turn) (text_exact are_printable count)
     (λ bytes len. record { is = put tt; same = len }) (λ bytes. refl) (λ r at. at.same) (λ r at. rw (← at.is.same) refl))
     (λ count. (made turn (replicate count 32), record { is = put tt; same = length-replicate count 32 })))
     (λ turn. (made turn [], put tt))
@@ -160,7 +137,7 @@ line_exact last =
     let made : ℕ → List ℤ → Line = (λ number values. record { number = number; values = values }) in
     step (number_exact 4 (is_over (option_map (λ r. r.number) last)))
     (λ number. step (byte_exact (λ count. nat_le 1 count && nat_le count 8))
-    (λ count. rest_of (At (At Any (λ r. r.number) number) (λ r. length r.values) count) (λ r. r.values) (made number) (listed (pos 0) value_fields value_at (λ last. signed_exact) count None)
+    (λ count. rest_of (At (At Any (λ r. r.number) number) (λ r. length r.values) count) (λ r. r.values) (made number) (listed (pos 0) value_fields value_at (λ last. any_signed) count None)
     (λ values len. record { is = put tt; same = len }) (λ values. refl) (λ r at. at.same) (λ r at. rw (← at.is.same) refl))
     (λ count. (made number (replicate count (pos 0)), record { is = put tt; same = length-replicate count (pos 0) })))
     (λ number. (made number [], put tt))

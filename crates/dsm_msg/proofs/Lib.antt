@@ -1,11 +1,4 @@
-pub mod Loops
-pub mod Writing
 pub mod Layers
-pub mod Exact
-pub mod Chain
-pub mod Atoms
-pub mod Formats
-pub mod Numbers
 pub mod Grammar
 pub mod Bodies
 pub mod Answering

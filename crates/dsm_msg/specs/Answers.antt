@@ -3,9 +3,9 @@ use Rattle.std.specs.Prelude.{◌≡◌, ℕ, ◌+◌, ◌-◌, ◌<◌, false, 
 use Rattle.dsm_msg.specs.declared.message.Msg.{Msg}
 use Rattle.dsm_msg.specs.declared.error.MsgErr.{MsgErr}
 use Rattle.dsm_msg.specs.declared.error.MsgErr.TheVariants as errors
-use Rattle.dsm_msg.specs.Fields.{Any, IsCut, Breaks}
+use Rattle.dsm_fields.specs.Fields.{Any, IsCut, Breaks}
 use Rattle.dsm_msg.specs.Spelling.{is_kind, message_fields, spelling, IsMessage}
-use Rattle.dsm_msg.specs.Reading.{Cut, Broken, Read}
+use Rattle.dsm_fields.specs.Reading.{Cut, Broken, Read}
 
 -- the refusal of a field that begins where so many bytes are left
 abbrev pub fault_of : List ℕ → ℕ → MsgErr
@@ -16,7 +16,7 @@ fault_of (kind ∷ bytes) left = if left == length (kind ∷ bytes) then errors.
 abbrev pub answer_of : List ℕ → Read Msg → Result Msg MsgErr
 answer_of bytes (Ok (msg, [])) = Ok msg
 answer_of bytes (Ok (msg, byte ∷ rest)) = Err (errors.Rest (length (byte ∷ rest)))
-answer_of bytes (Err Cut) = Err errors.Short
+answer_of bytes (Err (Cut left)) = Err errors.Short
 answer_of bytes (Err (Broken left)) = Err (fault_of bytes left)
 
 -- out of memory, or else this
@@ -55,10 +55,15 @@ pub record Spells (bytes : List ℕ) (msg : Msg) : Type 0 where
   pub message : IsMessage msg
   pub spelled : bytes ≡ spelling msg
 
+-- the bytes end within a field of a message
+pub record EndsEarly (bytes : List ℕ) : Type 0 where
+  pub left : ℕ
+  pub cut : IsCut Any message_fields bytes left
+
 -- The answer that fits the bytes. Of a message and the four refusals exactly one does.
 abbrev pub IsAnswer : Result Msg MsgErr → List ℕ → Type 0
 IsAnswer (Ok msg) bytes = Spells bytes msg
-IsAnswer (Err errors.Short) bytes = IsCut Any message_fields bytes
+IsAnswer (Err errors.Short) bytes = EndsEarly bytes
 IsAnswer (Err (errors.BadKind kind)) bytes = IsBadKind kind bytes
 IsAnswer (Err (errors.BadField place)) bytes = IsBadField place bytes
 IsAnswer (Err (errors.Rest count)) bytes = HasRest count bytes

@@ -1,10 +1,6 @@
--- Reading from left to right, with the first fault that is met: what the readers of the code give.
-use Rattle.std.specs.Prelude.{◌≡◌, ℕ, ℤ, zero, suc, Bool, true, false, ◌&&◌, ◌||◌, not, ◌==◌, nat_lt, nat_le, if◌then◌else◌, List, [], ◌∷◌, length, take, drop, Option, Some, None, option_map, Result, Ok, Err}
-use Rattle.std.specs.List.{list_all}
-use Rattle.std.specs.Int.{w64, cast_signed}
-use Rattle.byteorder.specs.Endian.{big_number}
+-- How messages are read: the same fields from the left.
+use Rattle.std.specs.Prelude.{ℕ, ℤ, ◌&&◌, ◌||◌, not, ◌==◌, nat_le, if◌then◌else◌, List, length, Option, None, option_map, Ok, Err}
 use Rattle.dsm_base.specs.declared.names.Mode.{Mode}
-use Rattle.dsm_base.specs.declared.names.Mode.TheVariants.{Shared, Excl}
 use Rattle.dsm_base.specs.declared.lists.Record.{Record}
 use Rattle.dsm_base.specs.declared.lists.PendingLine.{PendingLine}
 use Rattle.dsm_base.specs.declared.lists.LoggedGrant.{LoggedGrant}
@@ -22,82 +18,11 @@ use Rattle.dsm_msg.specs.declared.message.Msg.{Msg}
 use Rattle.dsm_msg.specs.declared.message.TurnBody.{TurnBody}
 use Rattle.dsm_msg.specs.declared.message.Body.{Body}
 use Rattle.dsm_msg.specs.declared.message.Body.TheVariants as bodies
-use Rattle.dsm_msg.specs.declared.field.FieldErr.{FieldErr}
-use Rattle.dsm_msg.specs.declared.field.FieldErr.TheVariants as errors
-use Rattle.dsm_msg.specs.Fields.{is_over}
-use Rattle.dsm_msg.specs.Spelling.{is_printable, is_from, is_second_over, version_place, arrival_place, may_give, is_kind, is_proc, is_other, is_asking}
+use Rattle.dsm_fields.specs.Fields.{are_printable, is_over, is_from, is_second_over}
+use Rattle.dsm_fields.specs.Reading.{Broken, Read, then_with, kept, byte_at, number_at, signed_at, mode_at, bool_at, text_at, entries_at, counted_at}
+use Rattle.dsm_msg.specs.Spelling.{version_place, arrival_place, may_give, is_kind, is_proc, is_other, is_asking}
 
--- the bytes end within a field, or a field that begins where so many are left isn't fit
-pub data Fault : Type 0 where
-  Cut : Fault
-  Broken : ℕ → Fault
-
--- a value and the bytes behind it, or the first fault
-abbrev pub Read : Type 0 → Type 0
-Read A = Result (A × List ℕ) Fault
-
--- the value, where it was read
-abbrev pub then_with : {A B : Type 0} → Read A → (A → List ℕ → Read B) → Read B
-then_with (Ok x) next = next x.0 x.1
-then_with (Err fault) next = Err fault
-
--- what a function returned is what reading gives, unless memory ran out
-abbrev pub Fails : {A : Type 0} → FieldErr → Read A → Type 0
-Fails errors.Memory read = Unit {0}
-Fails errors.Short read = read ≡ Err Cut
-Fails (errors.Broken left) read = read ≡ Err (Broken left)
-
--- a result in the code is this reading, as it is seen
-abbrev pub Gives : {A B : Type 0} → (A → B × List ℕ) → Result A FieldErr → Read B → Type 0
-Gives view (Ok x) read = read ≡ Ok (view x)
-Gives view (Err error) read = Fails error read
-
--- a number of so many bytes
-unfoldable pub number_at : ℕ → List ℕ → Read ℕ
-number_at width bytes = if nat_lt (length bytes) width then Err Cut else Ok (big_number width (take width bytes), drop width bytes)
-
--- one byte
-unfoldable pub byte_at : List ℕ → Read ℕ
-byte_at [] = Err Cut
-byte_at (byte ∷ bytes) = Ok (byte, bytes)
-
--- a signed number of eight bytes
-unfoldable pub signed_at : List ℕ → Read ℤ
-signed_at bytes = if nat_lt (length bytes) 8 then Err Cut else Ok (cast_signed w64 (big_number 8 (take 8 bytes)), drop 8 bytes)
-
--- so many bytes of text
-unfoldable pub text_at : ℕ → List ℕ → Read (List ℕ)
-text_at count bytes = if nat_lt (length bytes) count then Err Cut else Ok (take count bytes, drop count bytes)
-
--- the byte of a mode; no mode is the field's place
-unfoldable pub mode_at : List ℕ → Read Mode
-mode_at [] = Err Cut
-mode_at (zero ∷ bytes) = Ok (Shared, bytes)
-mode_at (suc zero ∷ bytes) = Ok (Excl, bytes)
-mode_at (suc (suc byte) ∷ bytes) = Err (Broken (length (suc (suc byte) ∷ bytes)))
-
-unfoldable pub bool_at : List ℕ → Read Bool
-bool_at [] = Err Cut
-bool_at (zero ∷ bytes) = Ok (false, bytes)
-bool_at (suc zero ∷ bytes) = Ok (true, bytes)
-bool_at (suc (suc byte) ∷ bytes) = Err (Broken (length (suc (suc byte) ∷ bytes)))
-
--- a value that is fit, or the field's place
-abbrev pub kept : {A : Type 0} → (A → Bool) → (List ℕ → Read A) → List ℕ → Read A
-kept ok read bytes = then_with (read bytes) (λ value rest. if ok value then Ok (value, rest) else Err (Broken (length bytes)))
-
--- so many entries, each judged by the one before it
-unfoldable pub entries_at : {A : Type 0} → (Option A → List ℕ → Read A) → Option A → ℕ → List ℕ → Read (List A)
-entries_at item_at last zero bytes = Ok ([], bytes)
-entries_at item_at last (suc count) bytes =
-    then_with (item_at last bytes) (λ item bytes.
-    then_with (entries_at item_at (Some item) count bytes) (λ items bytes.
-    Ok (item ∷ items, bytes)))
-
--- a count, and so many entries
-unfoldable pub counted_at : {A : Type 0} → (Option A → List ℕ → Read A) → List ℕ → Read (List A)
-counted_at item_at bytes = then_with (number_at 4 bytes) (λ count bytes. entries_at item_at None count bytes)
-
+-- a record, behind the one before it
 unfoldable pub record_at : Option Record → List ℕ → Read Record
 record_at last bytes =
     then_with (kept (is_over (option_map (λ r. r.turn) last)) (number_at 4) bytes) (λ turn bytes.
@@ -105,17 +30,19 @@ record_at last bytes =
     then_with (number_at 4 bytes) (λ version bytes.
     Ok (record { turn = turn; lock = record { 0 = lock }; version = version }, bytes))))
 
+-- a printed line that isn't out, behind the one before it
 unfoldable pub pending_at : Option PendingLine → List ℕ → Read PendingLine
 pending_at last bytes =
     then_with (kept (is_over (option_map (λ r. r.turn) last)) (number_at 4) bytes) (λ turn bytes.
     then_with (kept (λ count. nat_le count 256) (number_at 2) bytes) (λ count bytes.
-    then_with (kept (λ text. list_all is_printable text) (text_at count) bytes) (λ text bytes.
+    then_with (kept are_printable (text_at count) bytes) (λ text bytes.
     Ok (record { turn = turn; text = text }, bytes))))
 
 -- a value of a line
 abbrev pub value_at : Option ℤ → List ℕ → Read ℤ
 value_at last bytes = signed_at bytes
 
+-- a line, behind the one before it
 unfoldable pub line_at : Option Line → List ℕ → Read Line
 line_at last bytes =
     then_with (kept (is_over (option_map (λ r. r.number) last)) (number_at 4) bytes) (λ number bytes.
@@ -123,6 +50,7 @@ line_at last bytes =
     then_with (entries_at value_at None count bytes) (λ values bytes.
     Ok (record { number = number; values = values }, bytes))))
 
+-- a logged grant, behind the one before it
 unfoldable pub grant_at : Option LoggedGrant → List ℕ → Read LoggedGrant
 grant_at last bytes =
     then_with (kept (is_over (option_map (λ r. r.turn) last)) (number_at 4) bytes) (λ turn bytes.
@@ -131,6 +59,7 @@ grant_at last bytes =
     then_with (number_at 4 bytes) (λ version bytes.
     Ok (record { turn = turn; lock = record { 0 = lock }; mode = mode; version = version }, bytes)))))
 
+-- a logged opening, behind the one before it
 unfoldable pub opening_at : Option LoggedOpening → List ℕ → Read LoggedOpening
 opening_at last bytes =
     then_with (kept (is_over (option_map (λ r. r.turn) last)) (number_at 4) bytes) (λ turn bytes.
@@ -138,6 +67,7 @@ opening_at last bytes =
     then_with (number_at 4 bytes) (λ epoch bytes.
     Ok (record { turn = turn; bar = record { 0 = bar }; epoch = epoch }, bytes))))
 
+-- a version, behind the one before it
 unfoldable pub version_at : Option Version → List ℕ → Read Version
 version_at last bytes =
     then_with (kept (is_from (option_map version_place last)) (number_at 2) bytes) (λ lock bytes.
@@ -145,6 +75,7 @@ version_at last bytes =
     then_with (counted_at line_at bytes) (λ lines bytes.
     Ok (record { lock = record { 0 = lock }; version = version; lines = lines }, bytes))))
 
+-- an arrival, behind the one before it
 unfoldable pub arrival_at : Option Arrival → List ℕ → Read Arrival
 arrival_at last bytes =
     then_with (kept (is_from (option_map arrival_place last)) byte_at bytes) (λ bar bytes.
@@ -152,6 +83,7 @@ arrival_at last bytes =
     then_with (counted_at line_at bytes) (λ lines bytes.
     Ok (record { bar = record { 0 = bar }; epoch = epoch; lines = lines }, bytes))))
 
+-- how a processor stands at a lock, behind the lock before it
 unfoldable pub lock_stand_at : Option LockStand → List ℕ → Read LockStand
 lock_stand_at last bytes =
     then_with (kept (is_over (option_map (λ s. s.lock.0) last)) (number_at 2) bytes) (λ lock bytes.
@@ -161,6 +93,7 @@ lock_stand_at last bytes =
     then_with (number_at 4 bytes) (λ have bytes.
     Ok (record { lock = record { 0 = lock }; mode = mode; granted = granted; turn = turn; have = have }, bytes))))))
 
+-- how a processor stands at a barrier, behind the barrier before it
 unfoldable pub bar_stand_at : Option BarStand → List ℕ → Read BarStand
 bar_stand_at last bytes =
     then_with (kept (is_over (option_map (λ s. s.bar.0) last)) byte_at bytes) (λ bar bytes.
@@ -168,12 +101,14 @@ bar_stand_at last bytes =
     then_with (number_at 4 bytes) (λ openings bytes.
     Ok (record { bar = record { 0 = bar }; arrivals = arrivals; openings = openings }, bytes))))
 
+-- a lock's number, behind the lock before it
 unfoldable pub lock_number_at : Option LockNumber → List ℕ → Read LockNumber
 lock_number_at last bytes =
     then_with (kept (is_over (option_map (λ s. s.lock.0) last)) (number_at 2) bytes) (λ lock bytes.
     then_with (number_at 4 bytes) (λ number bytes.
     Ok (record { lock = record { 0 = lock }; number = number }, bytes)))
 
+-- a barrier's number, behind the barrier before it
 unfoldable pub bar_number_at : Option BarNumber → List ℕ → Read BarNumber
 bar_number_at last bytes =
     then_with (kept (is_over (option_map (λ s. s.bar.0) last)) byte_at bytes) (λ bar bytes.
@@ -184,6 +119,7 @@ bar_number_at last bytes =
 unfoldable pub given_at : Mode → List ℕ → Read (List Line)
 given_at mode bytes = then_with (kept (may_give mode) (number_at 4) bytes) (λ count bytes. entries_at line_at None count bytes)
 
+-- the body of a request
 unfoldable pub req_at : List ℕ → Read Body
 req_at bytes =
     then_with (number_at 2 bytes) (λ lock bytes.
@@ -191,6 +127,7 @@ req_at bytes =
     then_with (number_at 4 bytes) (λ have bytes.
     Ok (bodies.Req (record { 0 = lock }) mode have, bytes))))
 
+-- the body of a grant
 unfoldable pub grant_body_at : List ℕ → Read Body
 grant_body_at bytes =
     then_with (number_at 2 bytes) (λ lock bytes.
@@ -200,6 +137,7 @@ grant_body_at bytes =
     then_with (counted_at line_at bytes) (λ lines bytes.
     Ok (bodies.Grant (record { 0 = lock }) mode turn version lines, bytes))))))
 
+-- the body of a release
 unfoldable pub release_at : List ℕ → Read Body
 release_at bytes =
     then_with (number_at 2 bytes) (λ lock bytes.
@@ -208,6 +146,7 @@ release_at bytes =
     then_with (given_at mode bytes) (λ lines bytes.
     Ok (bodies.Release (record { 0 = lock }) mode version lines, bytes)))))
 
+-- the body of an arrival
 unfoldable pub arrive_at : List ℕ → Read Body
 arrive_at bytes =
     then_with (byte_at bytes) (λ bar bytes.
@@ -215,6 +154,7 @@ arrive_at bytes =
     then_with (counted_at line_at bytes) (λ lines bytes.
     Ok (bodies.Arrive (record { 0 = bar }) epoch lines, bytes))))
 
+-- the body of an opening
 unfoldable pub opened_at : List ℕ → Read Body
 opened_at bytes =
     then_with (byte_at bytes) (λ bar bytes.
@@ -226,6 +166,7 @@ opened_at bytes =
 abbrev pub asking_at : ℕ → List ℕ → Read Body
 asking_at kind bytes = if kind == 1 then req_at bytes else (if kind == 3 then release_at bytes else arrive_at bytes)
 
+-- a body that is brought again, behind the one before it
 unfoldable pub turn_body_at : Option TurnBody → List ℕ → Read TurnBody
 turn_body_at last bytes =
     then_with (kept (is_over (option_map (λ b. b.turn) last)) (number_at 4) bytes) (λ turn bytes.
@@ -233,9 +174,11 @@ turn_body_at last bytes =
     then_with (asking_at kind bytes) (λ body bytes.
     Ok (record { turn = turn; body = body }, bytes))))
 
+-- the body of a resync
 unfoldable pub resync_at : List ℕ → Read Body
 resync_at bytes = then_with (counted_at turn_body_at bytes) (λ turn_bodies bytes. Ok (bodies.Resync turn_bodies, bytes))
 
+-- the seven lists of a report
 unfoldable pub report_at : List ℕ → Read Report
 report_at bytes =
     then_with (counted_at grant_at bytes) (λ grants bytes.
@@ -247,9 +190,11 @@ report_at bytes =
     then_with (counted_at bar_stand_at bytes) (λ bars bytes.
     Ok (record { grants = grants; openings = openings; records = records; versions = versions; arrivals = arrivals; locks = locks; bars = bars }, bytes))))))))
 
+-- the body of a report
 unfoldable pub report_body_at : List ℕ → Read Body
 report_body_at bytes = then_with (report_at bytes) (λ report bytes. Ok (bodies.Report report, bytes))
 
+-- the body of kind 10
 unfoldable pub pruned_at : List ℕ → Read Body
 pruned_at bytes =
     then_with (number_at 4 bytes) (λ turn bytes.
@@ -272,6 +217,7 @@ body_at kind bytes =
     else (if kind == 10 then pruned_at bytes
     else Err (Broken (length bytes)))))))))))
 
+-- what every message brings along
 unfoldable pub carry_at : List ℕ → Read Carry
 carry_at bytes =
     then_with (number_at 4 bytes) (λ turn bytes.
@@ -280,6 +226,7 @@ carry_at bytes =
     then_with (counted_at pending_at bytes) (λ lines bytes.
     Ok (record { turn = turn; seen = seen; records = records; lines = lines }, bytes)))))
 
+-- a whole message
 unfoldable pub message_at : List ℕ → Read Msg
 message_at bytes =
     then_with (kept is_kind byte_at bytes) (λ kind bytes.

@@ -1,6 +1,5 @@
 -- How messages are spelled.
-use Rattle.std.specs.Prelude.{◌≡◌, ℕ, ℤ, Bool, true, false, ◌&&◌, ◌||◌, not, ◌==◌, nat_lt, nat_le, List, [], ◌∷◌, ◌++◌, length, Option, Some, None, option_map}
-use Rattle.std.specs.List.{list_all}
+use Rattle.std.specs.Prelude.{◌≡◌, ℕ, ℤ, Bool, true, ◌&&◌, ◌||◌, not, ◌==◌, nat_lt, nat_le, List, [], ◌∷◌, ◌++◌, length, Option, None, option_map}
 use Rattle.dsm_base.specs.declared.names.Mode.{Mode}
 use Rattle.dsm_base.specs.declared.names.Mode.TheVariants.{Shared, Excl}
 use Rattle.dsm_base.specs.declared.lists.Record.{Record}
@@ -21,29 +20,11 @@ use Rattle.dsm_msg.specs.declared.message.TurnBody.{TurnBody}
 use Rattle.dsm_msg.specs.declared.message.Body.{Body}
 use Rattle.dsm_msg.specs.declared.message.Body.TheOpen as layer
 use Rattle.dsm_msg.specs.declared.message.Body.TheViews.{out-Body}
-use Rattle.dsm_msg.specs.Fields.{Field, byte, number, signed, is_over, entries, counted, are_fit, bytes_of}
+use Rattle.dsm_fields.specs.Fields.{Field, byte, number, signed, text, mode_number, bool_number, are_printable, is_over, is_from, is_second_over, entries, counted, are_fit, are_kept, bytes_of}
 
 -- a body without what makes its type lead back to itself
 abbrev pub Layer : Type 0
 Layer = layer.Body-F Body TurnBody
-
--- a mode in one byte
-abbrev pub mode_number : Mode → ℕ
-mode_number Shared = 0
-mode_number Excl = 1
-
--- yes or no in one byte
-abbrev pub bool_number : Bool → ℕ
-bool_number false = 0
-bool_number true = 1
-
--- bytes from the space to the tilde
-abbrev pub is_printable : ℕ → Bool
-is_printable byte = nat_le 32 byte && nat_le byte 126
-
--- a text in so many bytes as it has, each of them printable
-abbrev pub text : List ℕ → Field
-text bytes = record { bytes = bytes; holds = true; keeps = list_all is_printable bytes }
 
 -- a record of a take: its turn over that of the one before, lock and version
 abbrev pub record_fields : Option Record → Record → List Field
@@ -58,12 +39,12 @@ abbrev pub pending_fields : Option PendingLine → PendingLine → List Field
 pending_fields last item =
     number 4 item.turn (is_over (option_map (λ r. r.turn) last) item.turn)
     ∷ number 2 (length item.text) (nat_le (length item.text) 256)
-    ∷ text item.text
+    ∷ text are_printable item.text
     ∷ []
 
 -- a value of a line
 abbrev pub value_fields : Option ℤ → ℤ → List Field
-value_fields last value = signed value ∷ []
+value_fields last value = signed value true ∷ []
 
 -- a line has 1 to 8 values
 abbrev pub line_fields : Option Line → Line → List Field
@@ -88,16 +69,6 @@ opening_fields last item =
     ∷ byte item.bar.0 true
     ∷ number 4 item.epoch true
     ∷ []
-
--- not below the first number of the entry before it
-abbrev pub is_from : Option (ℕ × ℕ) → ℕ → Bool
-is_from None first = true
-is_from (Some last) first = nat_le last.0 first
-
--- of two entries with the same first number, the later one has the greater second
-abbrev pub is_second_over : Option (ℕ × ℕ) → ℕ → ℕ → Bool
-is_second_over None first second = true
-is_second_over (Some last) first second = nat_lt last.0 first || nat_lt last.1 second
 
 -- versions are in the order of their locks and numbers
 abbrev pub version_place : Version → ℕ × ℕ
@@ -246,10 +217,6 @@ message_fields msg =
 -- the one spelling of a message
 abbrev pub spelling : Msg → List ℕ
 spelling msg = bytes_of (message_fields msg)
-
--- each field keeps its range and its order
-abbrev pub are_kept : List Field → Bool
-are_kept fields = list_all (λ field. field.keeps) fields
 
 -- the message keeps each range and order
 abbrev pub IsInOrder : Msg → Type 0

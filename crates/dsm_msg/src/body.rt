@@ -2,18 +2,19 @@
 
 ghost use Rattle.std.specs.Prelude.{◌≡◌, ◌++◌, OnOk};
 ghost use Rattle.dsm_msg.specs.declared.message.Body.TheViews.{out-Body};
-ghost use Rattle.dsm_msg.specs.Fields.{Appends};
+ghost use Rattle.dsm_fields.specs.Fields.{Appends};
 ghost use Rattle.dsm_msg.specs.Spelling.{kind_of, asking_fields, body_fields, report_fields};
-ghost use Rattle.dsm_msg.specs.Reading.{Gives, req_at, grant_body_at, given_at, release_at, arrive_at, opened_at, asking_at, resync_at, report_at, report_body_at, pruned_at, body_at};
+ghost use Rattle.dsm_fields.specs.Reading.{Gives};
+ghost use Rattle.dsm_msg.specs.Reading.{req_at, grant_body_at, given_at, release_at, arrive_at, opened_at, asking_at, resync_at, report_at, report_body_at, pruned_at, body_at};
 
 use crate::entry::{Entry, counted, entries, put_counted};
-use crate::field::{
-    FieldErr, byte, is_over, keeps, mode, number, put_byte, put_mode, put_number, put_short,
-    short_number,
-};
 use crate::lines::line_list;
 use crate::message::{Body, Report, TurnBody};
 use dsm_base::{Bar, Lock, MemFault, Mode};
+use dsm_fields::{
+    FieldErr, byte, is_over, keeps, mode, number, put_byte, put_mode, put_number, put_short,
+    short_number,
+};
 use dsm_lines::LineList;
 use sqlite_items::Items;
 use std::alloc::Global;
@@ -233,7 +234,8 @@ pub(crate) fn kind_of(body: &Body) -> u8
 
 /// Appends the fields of a body that goes to a home or manager, and nothing for another.
 fn put_asking(out: &mut Vec<u8>, body: &Body) -> Result<(), MemFault>
-    ensures { OnOk result (Appends (asking_fields (out-Body body.now)) out.old.items out.new.items) }
+    ensures { OnOk result
+        (Appends (asking_fields (out-Body body.now)) out.old.items out.new.items) }
 {
     match body {
         Body::Req { lock, mode, have } => {

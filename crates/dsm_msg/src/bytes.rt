@@ -3,17 +3,18 @@
 ghost use Rattle.std.specs.Prelude.{◌≡◌, ◌⊎◌, ◌++◌, Result, OnOk};
 ghost use Rattle.dsm_msg.specs.declared.error.MsgErr.{MsgErr};
 ghost use Rattle.dsm_msg.specs.declared.message.Msg.{Msg};
-ghost use Rattle.dsm_msg.specs.Fields.{Appends};
+ghost use Rattle.dsm_fields.specs.Fields.{Appends};
 ghost use Rattle.dsm_msg.specs.Spelling.{carry_fields, message_fields, spelling, IsInOrder, IsMessage};
-ghost use Rattle.dsm_msg.specs.Reading.{Gives, carry_at, message_at};
+ghost use Rattle.dsm_fields.specs.Reading.{Gives};
+ghost use Rattle.dsm_msg.specs.Reading.{carry_at, message_at};
 ghost use Rattle.dsm_msg.specs.Answers.{OrMemory, IsAnswer, NoPrefix, answer_of, fault_of};
 
 use crate::body::{body, kind_of, put_body};
 use crate::entry::{counted, put_counted};
 use crate::error::MsgErr;
-use crate::field::{FieldErr, byte, keeps, number, put_byte, put_number};
 use crate::message::{Carry, Msg};
 use dsm_base::{MemFault, Proc};
+use dsm_fields::{FieldErr, byte, keeps, number, put_byte, put_number};
 use sqlite_items::Items;
 use std::alloc::Global;
 
@@ -111,7 +112,7 @@ fn answer(alloc: Global, bytes: &[u8]) -> Result<Msg, MsgErr>
                 Err(rest_of(rest.len()))
             }
         }
-        Err(FieldErr::Short) => Err(MsgErr::Short),
+        Err(FieldErr::Short { .. }) => Err(MsgErr::Short),
         Err(FieldErr::Broken { left }) => Err(fault_at(bytes, left)),
         Err(FieldErr::Memory) => Err(MsgErr::Memory),
     }
@@ -132,7 +133,8 @@ pub fn write_msg(msg: &Msg, out: &mut Vec<u8>) -> Result<(), MemFault>
 /// message. `Memory` also where a place or a count is over 32 bits.
 pub fn read_msg(alloc: Global, bytes: &[u8]) -> Result<Msg, MsgErr>
     ensures fits { OrMemory result (IsAnswer result bytes.now) }
-    ensures only { (other : Result Msg MsgErr) → IsAnswer other bytes.now → OrMemory result (result ≡ other) }
+    ensures only { (other : Result Msg MsgErr) → IsAnswer other bytes.now →
+        OrMemory result (result ≡ other) }
 {
     answer(alloc, bytes)
 }

@@ -5,7 +5,6 @@ mod body;
 mod bytes;
 mod entry;
 mod error;
-mod field;
 mod lines;
 mod message;
 mod records;

@@ -1,15 +1,15 @@
 //! Lines with their values, versions and arrivals in bytes.
 
 ghost use Rattle.std.specs.Prelude.{◌≡◌, ◌≤◌, None};
-ghost use Rattle.dsm_msg.specs.Spelling.{is_from, is_second_over};
-ghost use Rattle.dsm_msg.specs.Reading.{Gives, entries_at, counted_at, value_at, line_at};
+ghost use Rattle.dsm_fields.specs.Reading.{Gives, entries_at, counted_at};
+ghost use Rattle.dsm_msg.specs.Reading.{value_at, line_at};
 
 use crate::entry::{Entry, counted, put_counted, put_entries};
-use crate::field::{
-    FieldErr, byte, is_over, keeps, number, put_byte, put_number, put_short, put_signed,
-    short_number, signed,
-};
 use dsm_base::{Bar, Lock, MemFault};
+use dsm_fields::{
+    FieldErr, byte, is_from, is_over, is_second_over, keeps, number, put_byte, put_number,
+    put_short, put_signed, short_number, signed,
+};
 use dsm_lines::{Arrival, Line, LineList, LineValues, Version};
 use std::alloc::Global;
 
@@ -34,26 +34,6 @@ pub(crate) fn line_list(alloc: Global, bytes: &[u8]) -> Result<(LineList, &[u8])
 {
     let (lines, rest) = counted::<Line>(alloc, bytes)?;
     Ok((LineList::from_vec(lines), rest))
-}
-
-/// Whether the first number isn't below that of the entry before it, where there is one.
-fn is_from(last: Option<(u32, u32)>, first: u32) -> bool
-    ensures { result ≡ is_from last first }
-{
-    match last {
-        None => true,
-        Some((before, _)) => before <= first,
-    }
-}
-
-/// Whether the entry before it, where there is one, has another first number or a lower second.
-fn is_second_over(last: Option<(u32, u32)>, first: u32, second: u32) -> bool
-    ensures { result ≡ is_second_over last first second }
-{
-    match last {
-        None => true,
-        Some((before, under)) => before < first || under < second,
-    }
 }
 
 impl Entry for i64 {

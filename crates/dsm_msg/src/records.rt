@@ -3,11 +3,11 @@
 ghost use Rattle.std.specs.Prelude.{◌≡◌};
 
 use crate::entry::Entry;
-use crate::field::{
-    FieldErr, byte, is_over, keeps, mode, number, put_byte, put_length, put_mode, put_number,
-    put_short, short_number, text,
-};
 use dsm_base::{Bar, Lock, LoggedGrant, LoggedOpening, MemFault, PendingLine, Record};
+use dsm_fields::{
+    FieldErr, byte, is_over, keeps, mode, number, printed, put_byte, put_length, put_mode,
+    put_number, put_short, short_number,
+};
 use std::alloc::Global;
 
 impl Entry for Record {
@@ -61,7 +61,7 @@ impl Entry for PendingLine {
         keeps(is_over(last.map(|last| last.turn), turn), bytes)?;
         let (length, after) = short_number(rest)?;
         keeps(length <= 256, rest)?;
-        let (text, rest) = text(alloc, length, after)?;
+        let (text, rest) = printed(alloc, length as usize, after)?;
         Ok((PendingLine { turn, text }, rest))
     }
 

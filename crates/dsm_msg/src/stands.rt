@@ -3,11 +3,11 @@
 ghost use Rattle.std.specs.Prelude.{◌≡◌};
 
 use crate::entry::Entry;
-use crate::field::{
+use dsm_base::{Bar, BarNumber, BarStand, Lock, LockNumber, LockStand, MemFault};
+use dsm_fields::{
     FieldErr, byte, flag, is_over, keeps, mode, number, put_byte, put_flag, put_mode, put_number,
     put_short, short_number,
 };
-use dsm_base::{Bar, BarNumber, BarStand, Lock, LockNumber, LockStand, MemFault};
 use std::alloc::Global;
 
 impl Entry for LockStand {

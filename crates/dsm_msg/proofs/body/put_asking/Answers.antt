@@ -2,10 +2,10 @@ use Rattle.std.proofs.Common.{◌≡◌, ◌∙◌, refl, true, ap}
 use Rattle.std.proofs.lemmas.Result.{on_ok_weaker}
 use Rattle.dsm_msg.specs.declared.message.Body.TheOpen as layer
 use Rattle.dsm_msg.specs.declared.message.Body.TheViews.{out-Body}
-use Rattle.dsm_msg.specs.Fields.{number, byte}
-use Rattle.dsm_msg.specs.Spelling.{line_fields, mode_number}
+use Rattle.dsm_fields.specs.Fields.{number, byte, mode_number}
+use Rattle.dsm_msg.specs.Spelling.{line_fields}
 use Rattle.dsm_msg.proofs.Layers.{out_release, out_arrive}
-use Rattle.dsm_msg.proofs.Writing.{field_first, of_list}
+use Rattle.dsm_fields.proofs.Writing.{field_first, of_list}
 use Rattle.dsm_msg.proofs.body.put_asking.Goals as goal
 
 pub returns-in_ok-put_number-in-Release : goal.returns-in_ok-put_number-in-Release

@@ -1,6 +1,6 @@
 use Rattle.std.proofs.lemmas.Result.{on_ok_weaker}
 use Rattle.dsm_msg.specs.Spelling.{grant_fields, opening_fields, record_fields, version_fields, arrival_fields, lock_stand_fields, bar_stand_fields}
-use Rattle.dsm_msg.proofs.Writing.{fields_first, of_list}
+use Rattle.dsm_fields.proofs.Writing.{fields_first, of_list}
 use Rattle.dsm_msg.proofs.body.put_report.Goals as goal
 
 pub returns : goal.returns

@@ -1,8 +1,8 @@
 use Rattle.std.proofs.Common.{true}
 use Rattle.std.proofs.lemmas.Result.{on_ok_weaker}
-use Rattle.dsm_msg.specs.Fields.{number}
+use Rattle.dsm_fields.specs.Fields.{number}
 use Rattle.dsm_msg.specs.Spelling.{record_fields, pending_fields}
-use Rattle.dsm_msg.proofs.Writing.{field_first, fields_first, of_list}
+use Rattle.dsm_fields.proofs.Writing.{field_first, fields_first, of_list}
 use Rattle.dsm_msg.proofs.bytes.put_carry.Goals as goal
 
 pub returns : goal.returns

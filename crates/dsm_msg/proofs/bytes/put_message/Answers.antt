@@ -1,8 +1,8 @@
 use Rattle.std.proofs.Common.{◌∙◌, ◌++◌, ◌∷◌, [], ℕ, true, refl, ap}
 use Rattle.std.proofs.lemmas.Result.{on_ok_weaker}
-use Rattle.dsm_msg.specs.Fields.{byte}
+use Rattle.dsm_fields.specs.Fields.{byte}
 use Rattle.dsm_msg.specs.Spelling.{kind_of, is_proc, is_other}
-use Rattle.dsm_msg.proofs.Writing.{field_first, fields_first}
+use Rattle.dsm_fields.proofs.Writing.{field_first, fields_first}
 use Rattle.dsm_msg.proofs.bytes.put_message.Goals as goal
 
 pub returns : goal.returns

@@ -1,6 +1,6 @@
 use Rattle.std.proofs.lemmas.Result.{on_ok_weaker}
 use Rattle.dsm_msg.specs.Spelling.{message_fields}
-use Rattle.dsm_msg.proofs.Answering.{fit_fields}
+use Rattle.dsm_fields.proofs.Writing.{fit_fields}
 use Rattle.dsm_msg.proofs.bytes.write_msg.Goals as goal
 
 pub returns : goal.returns

@@ -1,8 +1,8 @@
 use Rattle.std.proofs.Common.{◌≡◌, ◌∙◌, None, ap}
 use Rattle.std.specs.Option.{option_copied}
 use Rattle.std.proofs.lemmas.Result.{err_from_is_err_and}
-use Rattle.dsm_msg.specs.Reading.{entries_at}
-use Rattle.dsm_msg.proofs.Loops.{last_of, goes_on, fails, is_done}
+use Rattle.dsm_fields.specs.Reading.{entries_at}
+use Rattle.dsm_fields.proofs.Loops.{last_of, goes_on, fails, is_done}
 use Rattle.dsm_msg.proofs.entry.entries.Goals as goal
 
 pub returns-in_err-item : goal.returns-in_err-item

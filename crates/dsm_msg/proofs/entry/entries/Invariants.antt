@@ -1,6 +1,6 @@
 use Rattle.std.proofs.Common.{◌≡◌, ◌-◌, None}
-use Rattle.dsm_msg.specs.Reading.{entries_at}
-use Rattle.dsm_msg.proofs.Loops.{last_of, with_front}
+use Rattle.dsm_fields.specs.Reading.{entries_at}
+use Rattle.dsm_fields.proofs.Loops.{last_of, with_front}
 use Rattle.dsm_msg.proofs.entry.entries.Given as goal
 
 abbrev pub invariant-loop : goal.invariant-loop

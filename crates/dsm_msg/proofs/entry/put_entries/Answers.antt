@@ -1,6 +1,6 @@
 use Rattle.std.proofs.Common.{◌≡◌, ◌∙◌, ◌+◌, ◌++◌, ◌∷◌, [], take, ap, sym}
 use Rattle.std.proofs.lemmas.List.{take_more}
-use Rattle.dsm_msg.proofs.Loops.{appends_more}
+use Rattle.dsm_fields.proofs.Loops.{appends_more}
 use Rattle.dsm_msg.proofs.entry.put_entries.Goals as goal
 
 pub loop-item-preserved : goal.loop-item-preserved

@@ -1,5 +1,5 @@
 use Rattle.std.proofs.Common.{Option, take}
-use Rattle.dsm_msg.specs.Fields.{Appends, entries}
+use Rattle.dsm_fields.specs.Fields.{Appends, entries}
 use Rattle.dsm_msg.proofs.entry.put_entries.Given as goal
 
 abbrev pub invariant-loop-item : goal.invariant-loop-item

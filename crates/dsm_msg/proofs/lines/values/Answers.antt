@@ -3,8 +3,9 @@ use Rattle.std.proofs.Common.{rules, ◌≡◌, ◌∙◌, ◌++◌, ◌∷◌, 
 use Rattle.std.proofs.lemmas.Int.{to_z-of_z}
 use Rattle.std.proofs.lemmas.List.{length-append}
 use Rattle.std.proofs.lemmas.Result.{err_from_is_err_and}
-use Rattle.dsm_msg.specs.Reading.{entries_at, value_at}
-use Rattle.dsm_msg.proofs.Loops.{last_of, goes_on, fails, is_done}
+use Rattle.dsm_fields.specs.Reading.{entries_at}
+use Rattle.dsm_msg.specs.Reading.{value_at}
+use Rattle.dsm_fields.proofs.Loops.{last_of, goes_on, fails, is_done}
 use Rattle.dsm_msg.proofs.lines.values.Goals as goal
 
 pub returns-in_err-value : goal.returns-in_err-value

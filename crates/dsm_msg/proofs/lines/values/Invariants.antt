@@ -1,6 +1,7 @@
 use Rattle.std.proofs.Common.{◌≡◌, ◌-◌, None, length}
-use Rattle.dsm_msg.specs.Reading.{entries_at, value_at}
-use Rattle.dsm_msg.proofs.Loops.{last_of, with_front}
+use Rattle.dsm_fields.specs.Reading.{entries_at}
+use Rattle.dsm_msg.specs.Reading.{value_at}
+use Rattle.dsm_fields.proofs.Loops.{last_of, with_front}
 use Rattle.dsm_msg.proofs.lines.values.Given as goal
 
 abbrev pub invariant-loop : goal.invariant-loop
