@@ -98,26 +98,3 @@ module _ {S : Type 0} (line_at : ℕ → ℕ) (setup : Setup) (first : ℕ → S
   newer_alike run other is_run other_run same = both_ways (newer run) (newer other)
       (λ e. let has = newer_is_own run is_run e in own_is_newer other other_run has.0 (rw (same has.0) at has.1))
       (λ e. let has = newer_is_own other other_run e in own_is_newer run is_run has.0 (rw (sym (same has.0)) at has.1))
-
-  -- any number of turns more
-  newer_more : (more before : List Turn) → to ≤ (after_run first threads before).versions lock → newer (more ++ before) ≡ newer before
-  newer_more [] before le = refl
-  newer_more (turn ∷ more) before le =
-      let le' : to ≤ (after_run first threads (more ++ before)).versions lock = omega (arith, version_never_falls first threads more before lock) in
-      newer_turn line_at setup first threads turn (more ++ before) lock from to line le' ∙ newer_more more before le
-
-  module _ (settled : List Turn) (tails : ℕ → List Label) (is : IsHistory setup first threads settled tails) (p : ℕ) where
-    -- the settled turns and one tail
-    pub newer_alone : to ≤ (after_run first threads (turns_by p (tails p) ++ settled)).versions lock → newer (turns_by p (tails p) ++ settled) ≡ newer (whole_of setup settled tails)
-    newer_alone le =
-        let like = tail_first setup first threads settled tails is p (tails_but tails p) (but_one tails p) in
-        sym (newer_more (turns_of_tails setup.procs (tails_but tails p)) (turns_by p (tails p) ++ settled) le)
-        ∙ newer_alike (whole_of setup (turns_by p (tails p) ++ settled) (tails_but tails p)) (whole_of setup settled tails) like.is_run is.is_run like.same_labels
-
-    -- all but the oldest k of p's turns are lost
-    pub newer_left : (k : ℕ) (others : ℕ → List Label) → AreWith tails p (upto k (tails p)) others → to ≤ (after_run first threads (whole_of setup settled others)).versions lock →
-        newer (whole_of setup settled others) ≡ newer (whole_of setup settled tails)
-    newer_left k others are le =
-        let like = last_like setup first threads settled tails is p (past k (tails p)) (upto k (tails p)) (sym (past_upto k (tails p))) others are in
-        sym (newer_more (turns_by p (past k (tails p))) (whole_of setup settled others) le)
-        ∙ newer_alike (turns_by p (past k (tails p)) ++ whole_of setup settled others) (whole_of setup settled tails) like.is_run is.is_run like.same_labels

@@ -1,4 +1,5 @@
--- Worked pairs of neighbouring turns, one of each kind, computed by the definitions: the name of each tells the earlier turn and then the later one.
+-- Worked pairs of neighbouring turns, one of each kind, computed by the definitions: the name of each tells the earlier
+-- turn and then the later one.
 use Rattle.std.specs.Prelude.{◌≡◌, ℕ, pos, true, List, [], ◌∷◌, ◌++◌, Some, None}
 use Rattle.std.proofs.Common.{refl}
 use Rattle.dsm_base.specs.declared.names.Cell.{Cell}
