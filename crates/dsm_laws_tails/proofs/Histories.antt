@@ -5,11 +5,10 @@ use Rattle.dsm_base.specs.declared.label.Label.{Label}
 use Rattle.dsm_base.specs.declared.setup.Setup.{Setup}
 use Rattle.dsm_base.specs.Threads.{Semantics}
 use Rattle.dsm_base.specs.Plain.{Turn, IsPlainRun, IsPlainTurn, after_run, labels_of}
-use Rattle.dsm_laws_runs.specs.Versions.{AllAskFirst, SameAt, memory_at}
+use Rattle.dsm_laws_runs.specs.Versions.{AllAskFirst}
 use Rattle.dsm_laws_runs.specs.Swap.{IsRunLike}
 use Rattle.dsm_laws_runs.proofs.Each.{for_each}
 use Rattle.dsm_laws_runs.proofs.OwnPart.{no_labels}
-use Rattle.dsm_laws_runs.proofs.Memory.{memory_at_more}
 use Rattle.dsm_laws_tails.specs.Shuffles.{HasLabel, AreIndependent, IsShuffle, CanShuffle}
 use Rattle.dsm_laws_tails.specs.Fronts.{turns_by, AreWith}
 use Rattle.dsm_laws_tails.specs.Histories.{turns_of_tails, whole_of, IsHistory, IsHistoryLike}

@@ -1,6 +1,6 @@
 -- Which lines are newer, told by the labels of each processor alone: so it is the same in all runs in which each makes the same turns.
-use Rattle.std.specs.Prelude.{◌≡◌, ℕ, ◌≤◌, Bool, true, false, ◌&&◌, ◌||◌, nat_lt, nat_le, List, [], ◌∷◌, ◌++◌, Option, Some, is_some}
-use Rattle.std.proofs.Common.{arith, refl, sym, ◌∙◌, ⊎_elim}
+use Rattle.std.specs.Prelude.{◌≡◌, ℕ, Bool, true, false, ◌&&◌, ◌||◌, nat_lt, nat_le, List, [], ◌∷◌, Option, Some, is_some}
+use Rattle.std.proofs.Common.{arith, refl, sym, ⊎_elim}
 use Rattle.std.proofs.lemmas.Bool.{cases_Bool, cases_eq}
 use Rattle.dsm_base.specs.declared.names.Mode.{Mode}
 use Rattle.dsm_base.specs.declared.label.Label.{Label}
@@ -13,14 +13,7 @@ use Rattle.dsm_laws_runs.specs.Newer.{stores_to, is_newer}
 use Rattle.dsm_laws_runs.proofs.Each.{for_each}
 use Rattle.dsm_laws_runs.proofs.OwnPart.{labels_mine, labels_other}
 use Rattle.dsm_laws_runs.proofs.Access.{stores_hold}
-use Rattle.dsm_laws_runs.proofs.Versions.{version_never_falls}
 use Rattle.dsm_laws_runs.proofs.OwnVersions.{has_version}
-use Rattle.dsm_laws_runs.proofs.Newer.{newer_turn}
-use Rattle.dsm_laws_tails.specs.Fronts.{upto, past, turns_by, AreWith}
-use Rattle.dsm_laws_tails.specs.Histories.{turns_of_tails, whole_of, IsHistory}
-use Rattle.dsm_laws_tails.proofs.Fronts.{past_upto}
-use Rattle.dsm_laws_tails.proofs.Histories.{last_like}
-use Rattle.dsm_laws_tails.proofs.Tails.{tails_but, but_one, tail_first}
 
 exclusive_some : (held : Option Mode) → is_exclusive held ≡ true → is_some held ≡ true
 exclusive_some held e = grind arith

@@ -1,6 +1,6 @@
 -- Older parts of the tails: each version that is made in them is as the whole has it, whether threads ask first or not.
 -- Whoever makes one in its tail holds the lock alone, and by independence no other has used the lock's cells in its own.
-use Rattle.std.specs.Prelude.{◌≡◌, ◌≢◌, ℕ, ℤ, zero, suc, ◌+◌, ◌<◌, ◌≤◌, Bool, true, false, ◌&&◌, ◌==◌, not, nat_lt, nat_le, if◌then◌else◌, List, [], ◌∷◌, ◌++◌, ◌⊎◌, Option, Some, None, is_some}
+use Rattle.std.specs.Prelude.{◌≡◌, ◌≢◌, ℕ, ℤ, zero, suc, ◌+◌, ◌<◌, ◌≤◌, Bool, true, false, ◌&&◌, ◌==◌, not, nat_lt, if◌then◌else◌, List, [], ◌∷◌, ◌++◌, ◌⊎◌, Option, Some, None, is_some}
 use Rattle.std.proofs.Common.{arith, refl, sym, ap, ◌∙◌, ⊎_elim, inl, inr, append_assoc, append-nil, subst}
 use Rattle.std.proofs.lemmas.Bool.{cases_Bool, cases_eq}
 use Rattle.dsm_base.specs.declared.names.Lock.{Lock}
@@ -9,12 +9,11 @@ use Rattle.dsm_base.specs.declared.label.Label.{Label}
 use Rattle.dsm_base.specs.declared.setup.Setup.{Setup}
 use Rattle.dsm_base.specs.Access.{piece_of, is_exclusive}
 use Rattle.dsm_base.specs.Threads.{Semantics}
-use Rattle.dsm_base.specs.Plain.{PlainState, Turn, IsPlainRun, after_run, labels_of, plain_turn, memory_after, versions_after, held_after, may_stand_beside}
+use Rattle.dsm_base.specs.Plain.{PlainState, Turn, IsPlainRun, after_run, labels_of, plain_turn, memory_after, held_after, may_stand_beside}
 use Rattle.dsm_laws_runs.specs.Newer.{stores_to, is_newer}
-use Rattle.dsm_laws_runs.specs.OwnPart.{held_of, arrived_of}
+use Rattle.dsm_laws_runs.specs.OwnPart.{held_of}
 use Rattle.dsm_laws_runs.specs.Pieces.{is_of_lock}
-use Rattle.dsm_laws_runs.specs.Swap.{rests_on}
-use Rattle.dsm_laws_runs.specs.Versions.{IsCellOf, SameAt, makes_version, memory_at}
+use Rattle.dsm_laws_runs.specs.Versions.{SameAt, makes_version, memory_at}
 use Rattle.dsm_laws_runs.proofs.Access.{stores_hold}
 use Rattle.dsm_laws_runs.proofs.Each.{for_each}
 use Rattle.dsm_laws_runs.proofs.Exclusion.{exclusive_alone}
@@ -405,13 +404,12 @@ module _ {S : Type 0} (line_at : ℕ → ℕ) (setup : Setup) (first : ℕ → S
       others_leave : (q r : ℕ) → q < r → r < setup.procs → MakesIt lock (labels_of r settled) (tails r) → Leaves setup lock (labels_of q settled) (tails q)
       others_leave q r lt procs it label older has =
           let never : is_exclusive (held_of (older ++ labels_of q settled) lock) ≡ true → ⊥ =
-          λ held. not_both q r lt procs label older has held it.label it.older it.has (makes_exclusive lock (held_of (it.older ++ labels_of r settled)) it.label it.makes) in
-          (
+          λ held. not_both q r lt procs label older has held it.label it.older it.has (makes_exclusive lock (held_of (it.older ++ labels_of r settled)) it.label it.makes) in (
             ⊎_elim (λ is. absurd (never (makes_exclusive lock (held_of (older ++ labels_of q settled)) label is))) (λ none. none) (cases_Bool (makes_version lock (held_of (older ++ labels_of q settled)) label)),
             ⊎_elim
-            (λ is. absurd (never (rw (held_at q older) at (store_exclusive (turns_by q older ++ below q tails) q label (run_at q (omega arith) label older has).1.is_label is))))
-            (λ none. none)
-            (cases_Bool (stores_at setup lock label)),
+                (λ is. absurd (never (rw (held_at q older) at (store_exclusive (turns_by q older ++ below q tails) q label (run_at q (omega arith) label older has).1.is_label is))))
+                (λ none. none)
+                (cases_Bool (stores_at setup lock label)),
           )
 
       module _ (parts : ℕ → List Label) (is_part : (q : ℕ) → (newer : List Label) × (tails q ≡ newer ++ parts q)) where

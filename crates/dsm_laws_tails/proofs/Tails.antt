@@ -1,13 +1,11 @@
 -- A history with one tail last or first, and what settles or is lost by its length.
-use Rattle.std.specs.Prelude.{ℕ, ◌≤◌, ◌==◌, if◌then◌else◌, List, [], ◌++◌}
-use Rattle.std.proofs.Common.{arith, refl, sym, ap, ◌∙◌, append-nil}
+use Rattle.std.specs.Prelude.{ℕ, ◌==◌, if◌then◌else◌, List, [], ◌++◌}
+use Rattle.std.proofs.Common.{arith, refl, sym, append-nil}
 use Rattle.dsm_base.specs.declared.label.Label.{Label}
 use Rattle.dsm_base.specs.declared.setup.Setup.{Setup}
 use Rattle.dsm_base.specs.Threads.{Semantics}
-use Rattle.dsm_base.specs.Plain.{Turn, IsPlainRun, after_run}
-use Rattle.dsm_laws_runs.specs.Versions.{SameAt, memory_at}
+use Rattle.dsm_base.specs.Plain.{Turn, IsPlainRun}
 use Rattle.dsm_laws_runs.specs.Swap.{IsRunLike}
-use Rattle.dsm_laws_runs.proofs.Memory.{memory_at_more}
 use Rattle.dsm_laws_tails.specs.Fronts.{upto, past, turns_by, AreWith}
 use Rattle.dsm_laws_tails.specs.Histories.{turns_of_tails, whole_of, IsHistory, IsHistoryLike}
 use Rattle.dsm_laws_tails.proofs.Fronts.{past_upto}
