@@ -37,7 +37,7 @@ below_other p q tail ne = grind arith
 below_none : (q : ℕ) (tail : List Label) → [] ≡ (if nat_lt q 0 then tail else [])
 below_none q tail = grind arith
 
-labels_below : (procs : ℕ) (tails : ℕ → List Label) (q : ℕ) → labels_of q (turns_of_tails procs tails) ≡ (if nat_lt q procs then tails q else [])
+pub labels_below : (procs : ℕ) (tails : ℕ → List Label) (q : ℕ) → labels_of q (turns_of_tails procs tails) ≡ (if nat_lt q procs then tails q else [])
 labels_below zero tails q = below_none q (tails q)
 labels_below (suc p) tails q =
     labels_join q (turns_by p (tails p)) (turns_of_tails p tails)
@@ -46,5 +46,9 @@ labels_below (suc p) tails q =
     (rw (labels_by p (tails p)) (below_mine p (tails p)))
     (λ ne. rw (labels_by_other p q (tails p) ne) (below_other p q (tails q) ne)))
 
+-- one that is no processor has no tail
+pub tail_of : (procs : ℕ) (tails : ℕ → List Label) (q : ℕ) → (procs ≤ q → tails q ≡ []) → labels_of q (turns_of_tails procs tails) ≡ tails q
+tail_of procs tails q none = labels_below procs tails q ∙ grind (arith, none)
+
 pub tails_shuffle : (procs : ℕ) (tails : ℕ → List Label) → ((q : ℕ) → procs ≤ q → tails q ≡ []) → IsShuffle tails (turns_of_tails procs tails)
-tails_shuffle procs tails none q = labels_below procs tails q ∙ grind (arith, none q)
+tails_shuffle procs tails none q = tail_of procs tails q (none q)

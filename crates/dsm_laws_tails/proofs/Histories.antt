@@ -5,17 +5,16 @@ use Rattle.dsm_base.specs.declared.label.Label.{Label}
 use Rattle.dsm_base.specs.declared.setup.Setup.{Setup}
 use Rattle.dsm_base.specs.Threads.{Semantics}
 use Rattle.dsm_base.specs.Plain.{Turn, IsPlainRun, IsPlainTurn, after_run, labels_of}
-use Rattle.dsm_laws_runs.specs.Versions.{AllAskFirst, SameAt, memory_at}
+use Rattle.dsm_laws_runs.specs.Versions.{AllAskFirst}
 use Rattle.dsm_laws_runs.specs.Swap.{IsRunLike}
 use Rattle.dsm_laws_runs.proofs.Each.{for_each}
 use Rattle.dsm_laws_runs.proofs.OwnPart.{no_labels}
-use Rattle.dsm_laws_runs.proofs.Memory.{memory_at_more}
 use Rattle.dsm_laws_tails.specs.Shuffles.{HasLabel, AreIndependent, IsShuffle, CanShuffle}
 use Rattle.dsm_laws_tails.specs.Fronts.{turns_by, AreWith}
 use Rattle.dsm_laws_tails.specs.Histories.{turns_of_tails, whole_of, IsHistory, IsHistoryLike}
 use Rattle.dsm_laws_tails.proofs.Places.{has_nothing, has_later, has_earlier, labels_join}
 use Rattle.dsm_laws_tails.proofs.Shuffles.{shuffled}
-use Rattle.dsm_laws_tails.proofs.Fronts.{labels_by, labels_by_other, tails_shuffle}
+use Rattle.dsm_laws_tails.proofs.Fronts.{labels_by, labels_by_other, tail_of, tails_shuffle}
 
 -- what a run begins with is one
 pub older_run : {S : Type 0} (setup : Setup) (first : ℕ → S) (threads : Semantics S) (more before : List Turn) → IsPlainRun setup first threads (more ++ before) → IsPlainRun setup first threads before
@@ -25,6 +24,10 @@ older_run setup first threads (turn ∷ more) before is_run = older_run setup fi
 with_none : (procs : ℕ) (tails others : ℕ → List Label) (p : ℕ) (tail : List Label) → AreWith tails p tail others → (procs ≤ p → tail ≡ []) → ((q : ℕ) → procs ≤ q → tails q ≡ []) →
     (q : ℕ) → procs ≤ q → others q ≡ []
 with_none procs tails others p tail are own none q = for_each (λ q. procs ≤ q → others q ≡ []) p q (λ past. are.own ∙ own past) (λ ne past. are.same q ne ∙ none q past)
+
+-- a processor's turns are its settled ones and its tail
+pub course_is : (setup : Setup) (settled : List Turn) (tails : ℕ → List Label) (p : ℕ) → (setup.procs ≤ p → tails p ≡ []) → labels_of p (whole_of setup settled tails) ≡ tails p ++ labels_of p settled
+course_is setup settled tails p none = labels_join p (turns_of_tails setup.procs tails) settled ∙ ap (λ tail. tail ++ labels_of p settled) (tail_of setup.procs tails p none)
 
 -- a part of an empty list is empty
 part_none : (newer older : List Label) → [] ≡ newer ++ older → (newer ≡ []) × (older ≡ [])
@@ -64,10 +67,6 @@ module _ {S : Type 0} (setup : Setup) (first : ℕ → S) (threads : Semantics S
     -- any order of the tails
     pub in_any_order : (turns : List Turn) → IsShuffle tails turns → IsRunLike setup first threads (turns ++ settled) whole
     in_any_order turns is_shuffle = shuffled setup first threads is.ask_first settled tails (turns_of_tails setup.procs tails) turns can_shuffle is_shuffle
-
-    -- a processor's turns are its settled ones and its tail
-    pub course_is : (p : ℕ) → labels_of p whole ≡ tails p ++ labels_of p settled
-    course_is p = labels_join p (turns_of_tails setup.procs tails) settled ∙ ap (λ tail. tail ++ labels_of p settled) (can_shuffle.is_shuffle p)
 
     -- a turn of p after all of it
     pub goes_on : (p : ℕ) (label : Label) (others : ℕ → List Label) → AreWith tails p (label ∷ tails p) others →
@@ -162,9 +161,3 @@ module _ {S : Type 0} (setup : Setup) (first : ℕ → S) (threads : Semantics S
           no_others = none_older;
           is_run = older_run setup first threads (turns_by p newer) (whole_of setup settled others) last_like.is_run;
         }
-
-        -- and what is left has the versions that are made in it as they were
-        pub loses_versions : (lock version : ℕ) → version ≤ (after_run first threads (whole_of setup settled others)).versions lock →
-            SameAt setup lock (memory_at first threads (whole_of setup settled others) lock version) (memory_at first threads whole lock version)
-        loses_versions lock version le cell in_lock =
-            sym (ap (λ memory. memory cell) (memory_at_more first threads (turns_by p newer) (whole_of setup settled others) lock version le)) ∙ last_like.same_versions lock version cell in_lock

@@ -4,6 +4,7 @@ pub mod Shuffles
 pub mod Fronts
 pub mod Histories
 pub mod Tails
+pub mod OlderParts
 pub mod Copies
 pub mod NewerAlike
 mod Example

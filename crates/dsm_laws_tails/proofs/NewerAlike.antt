@@ -1,6 +1,6 @@
 -- Which lines are newer, told by the labels of each processor alone: so it is the same in all runs in which each makes the same turns.
-use Rattle.std.specs.Prelude.{◌≡◌, ℕ, ◌≤◌, Bool, true, false, ◌&&◌, ◌||◌, nat_lt, nat_le, List, [], ◌∷◌, ◌++◌, Option, Some, is_some}
-use Rattle.std.proofs.Common.{arith, refl, sym, ◌∙◌, ⊎_elim}
+use Rattle.std.specs.Prelude.{◌≡◌, ℕ, Bool, true, false, ◌&&◌, ◌||◌, nat_lt, nat_le, List, [], ◌∷◌, Option, Some, is_some}
+use Rattle.std.proofs.Common.{arith, refl, sym, ⊎_elim}
 use Rattle.std.proofs.lemmas.Bool.{cases_Bool, cases_eq}
 use Rattle.dsm_base.specs.declared.names.Mode.{Mode}
 use Rattle.dsm_base.specs.declared.label.Label.{Label}
@@ -13,14 +13,7 @@ use Rattle.dsm_laws_runs.specs.Newer.{stores_to, is_newer}
 use Rattle.dsm_laws_runs.proofs.Each.{for_each}
 use Rattle.dsm_laws_runs.proofs.OwnPart.{labels_mine, labels_other}
 use Rattle.dsm_laws_runs.proofs.Access.{stores_hold}
-use Rattle.dsm_laws_runs.proofs.Versions.{version_never_falls}
 use Rattle.dsm_laws_runs.proofs.OwnVersions.{has_version}
-use Rattle.dsm_laws_runs.proofs.Newer.{newer_turn}
-use Rattle.dsm_laws_tails.specs.Fronts.{upto, past, turns_by, AreWith}
-use Rattle.dsm_laws_tails.specs.Histories.{turns_of_tails, whole_of, IsHistory}
-use Rattle.dsm_laws_tails.proofs.Fronts.{past_upto}
-use Rattle.dsm_laws_tails.proofs.Histories.{last_like}
-use Rattle.dsm_laws_tails.proofs.Tails.{tails_but, but_one, tail_first}
 
 exclusive_some : (held : Option Mode) → is_exclusive held ≡ true → is_some held ≡ true
 exclusive_some held e = grind arith
@@ -98,26 +91,3 @@ module _ {S : Type 0} (line_at : ℕ → ℕ) (setup : Setup) (first : ℕ → S
   newer_alike run other is_run other_run same = both_ways (newer run) (newer other)
       (λ e. let has = newer_is_own run is_run e in own_is_newer other other_run has.0 (rw (same has.0) at has.1))
       (λ e. let has = newer_is_own other other_run e in own_is_newer run is_run has.0 (rw (sym (same has.0)) at has.1))
-
-  -- any number of turns more
-  newer_more : (more before : List Turn) → to ≤ (after_run first threads before).versions lock → newer (more ++ before) ≡ newer before
-  newer_more [] before le = refl
-  newer_more (turn ∷ more) before le =
-      let le' : to ≤ (after_run first threads (more ++ before)).versions lock = omega (arith, version_never_falls first threads more before lock) in
-      newer_turn line_at setup first threads turn (more ++ before) lock from to line le' ∙ newer_more more before le
-
-  module _ (settled : List Turn) (tails : ℕ → List Label) (is : IsHistory setup first threads settled tails) (p : ℕ) where
-    -- the settled turns and one tail
-    pub newer_alone : to ≤ (after_run first threads (turns_by p (tails p) ++ settled)).versions lock → newer (turns_by p (tails p) ++ settled) ≡ newer (whole_of setup settled tails)
-    newer_alone le =
-        let like = tail_first setup first threads settled tails is p (tails_but tails p) (but_one tails p) in
-        sym (newer_more (turns_of_tails setup.procs (tails_but tails p)) (turns_by p (tails p) ++ settled) le)
-        ∙ newer_alike (whole_of setup (turns_by p (tails p) ++ settled) (tails_but tails p)) (whole_of setup settled tails) like.is_run is.is_run like.same_labels
-
-    -- all but the oldest k of p's turns are lost
-    pub newer_left : (k : ℕ) (others : ℕ → List Label) → AreWith tails p (upto k (tails p)) others → to ≤ (after_run first threads (whole_of setup settled others)).versions lock →
-        newer (whole_of setup settled others) ≡ newer (whole_of setup settled tails)
-    newer_left k others are le =
-        let like = last_like setup first threads settled tails is p (past k (tails p)) (upto k (tails p)) (sym (past_upto k (tails p))) others are in
-        sym (newer_more (turns_by p (past k (tails p))) (whole_of setup settled others) le)
-        ∙ newer_alike (turns_by p (past k (tails p)) ++ whole_of setup settled others) (whole_of setup settled tails) like.is_run is.is_run like.same_labels

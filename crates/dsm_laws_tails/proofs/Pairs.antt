@@ -1,5 +1,6 @@
--- Worked pairs of neighbouring turns, one of each kind, computed by the definitions: the name of each tells the earlier turn and then the later one.
-use Rattle.std.specs.Prelude.{◌≡◌, ℕ, pos, true, List, [], ◌∷◌, ◌++◌, Some, None}
+-- Worked pairs of neighbouring turns, one of each kind, computed by the definitions: the name of each tells the earlier
+-- turn and then the later one.
+use Rattle.std.specs.Prelude.{◌≡◌, ℕ, pos, true, List, [], ◌∷◌, ◌++◌, None}
 use Rattle.std.proofs.Common.{refl}
 use Rattle.dsm_base.specs.declared.names.Cell.{Cell}
 use Rattle.dsm_base.specs.declared.names.Lock.{Lock}

@@ -1,4 +1,5 @@
--- Cases in which a law of runs would fail without one of its premises. Each computes the other premises, and what is otherwise than the law says.
+-- Cases in which a law of runs would fail without one of its premises. Each computes the other premises, and what is
+-- otherwise than the law says.
 use Rattle.std.specs.Prelude.{◌≡◌, ◌≢◌, ℕ, ℤ, pos, true, false, ◌==◌, nat_le, if◌then◌else◌, List, [], ◌∷◌, Some}
 use Rattle.std.proofs.Common.{arith, refl}
 use Rattle.dsm_base.specs.declared.names.Mode.{Mode}
@@ -362,7 +363,8 @@ quiet_copies = record { label = Label.Quiet; copy = zeros } ∷ []
 abbrev pub wrong_copies : List OwnTurn
 wrong_copies = record { label = Label.Quiet; copy = ones } ∷ []
 
--- (`alike`, `other`, `own`) of copies that aren't as they should be: a quiet turn has changed a cell, and so it is in the same run, with a turn of 1 more, or with an own one that is as it should be
+-- (`alike`, `other`, `own`) of copies that aren't as they should be: a quiet turn has changed a cell, and so it is in the
+-- same run, with a turn of 1 more, or with an own one that is as it should be
 wrong_copies_go_on :
     AllAsk of_lock quiet_each
     × IsMade of_lock quiet_each quiet_zero

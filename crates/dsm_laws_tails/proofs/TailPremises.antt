@@ -1,4 +1,5 @@
--- Cases in which a law of tails would fail without one of its premises. Each computes the other premises, and what is otherwise than the law says.
+-- Cases in which a law of tails would fail without one of its premises. Each computes the other premises, and what is
+-- otherwise than the law says.
 use Rattle.std.specs.Prelude.{◌≡◌, ◌≢◌, ℕ, ℤ, pos, ◌<◌, ◌≤◌, Bool, true, false, ◌==◌, if◌then◌else◌, List, [], ◌∷◌, ◌++◌, Some}
 use Rattle.std.proofs.Common.{arith, refl, sym, ◌∙◌}
 use Rattle.dsm_base.specs.declared.names.Lock.{Lock}
@@ -41,7 +42,8 @@ at_one first run = memory_at first threads run 0 1 0
 abbrev newer_at_one : (ℕ → List Want) → List Turn → Bool
 newer_at_one first run = is_newer (λ cell. cell) of_lock first threads run 0 0 1 0
 
--- a part of a history has made so many versions of the lock; at version 1 its cell has this value in the part and that in the whole, and its line is newer than version 0, or isn't
+-- a part of a history has made so many versions of the lock; at version 1 its cell has this value in the part and that in
+-- the whole, and its line is newer than version 0, or isn't
 record OtherInPart (first : ℕ → List Want) (part whole : List Turn) (made : ℕ) (value other : ℤ) (is was : Bool) : Type 0 where
   versions : (after_run first threads part).versions 0 ≡ made
   in_part : at_one first part ≡ value
@@ -96,7 +98,8 @@ dependent_turns = record {
   loses = (with_zero gave took_and_gave [], refl);
 }
 
--- `one_tail` (`versions`) and `newer_alike` (`alone`) with 1's tail alone, which makes version 1 of what 1 stored; the same with 0's tail lost (`versions_left`, `left`)
+-- `one_tail` (`versions`) and `newer_alike` (`alone`) with 1's tail alone, which makes version 1 of what 1 stored; the
+-- same with 0's tail lost (`versions_left`, `left`)
 dependent_versions :
     OtherInPart one_after_another (turns_by 1 took_and_gave ++ held_by_zero) (whole_of of_lock held_by_zero (of_two gave took_and_gave)) 1 (pos 7) (pos 0) true false
     × (whole_of of_lock held_by_zero (of_two (upto 0 gave) took_and_gave) ≡ turns_by 1 took_and_gave ++ held_by_zero)
@@ -229,7 +232,8 @@ turns_without_asks = record {
   loses = (with_zero took_shared took_shared [], refl);
 }
 
--- `one_state`: each stores under an exclusive hold, takes the lock shared once more and gives it back, which makes no version; so each may be the first, and the memory has what the other stored
+-- `one_state`: each stores under an exclusive hold, takes the lock shared once more and gives it back, which makes no
+-- version; so each may be the first, and the memory has what the other stored
 abbrev wants_so : ℕ → List Want
 wants_so value =
     Want.Ask the_lock Mode.Excl 1 ∷ Want.Take the_lock Mode.Excl ∷ Want.Store the_cell (pos value) 1 ∷ Want.Take the_lock Mode.Shared
@@ -259,7 +263,8 @@ two_states = (refl, refl, same_in_both (stored_and_shared 5) (stored_and_shared 
 
 -- Turns that are no run.
 
--- `one_state`, `newer_alike` (`alike`): 0 stores 5, and 1 takes the lock after it; in the other order the labels don't fit the versions, and version 1 has no store
+-- `one_state`, `newer_alike` (`alike`): 0 stores 5, and 1 takes the lock after it; in the other order the labels don't fit
+-- the versions, and version 1 has no store
 abbrev zero_stored : List Label
 zero_stored = Label.Give the_lock ∷ Label.Store the_cell (pos 5) ∷ Label.Take the_lock Mode.Excl 0 ∷ Label.Ask the_lock Mode.Excl ∷ []
 
@@ -328,7 +333,8 @@ turn_after_nobodys = (
   refl,
 )
 
--- `one_tail` (`versions`), `newer_alike` (`alone`), with 1's tail alone, and with 0's lost (`versions_left`, `left`): 0 stores without a hold, and 1 makes version 1 then
+-- `one_tail` (`versions`), `newer_alike` (`alone`), with 1's tail alone, and with 0's lost (`versions_left`, `left`): 0
+-- stores without a hold, and 1 makes version 1 then
 abbrev stored_by_nobody : List Label
 stored_by_nobody = Label.Store the_cell (pos 5) ∷ []
 
@@ -407,15 +413,19 @@ two_quiet = Label.Quiet ∷ Label.Quiet ∷ []
 quiet_tails : IsHistory of_lock quiet_each threads [] both × IsHistory of_lock quiet_each threads [] of_none
 quiet_tails = (history of_lock quiet_each [] one_quiet one_quiet refl refl refl refl refl, history of_lock quiet_each [] [] [] refl refl refl refl refl)
 
--- the tail of 0 isn't what it should be, and all others are the same: it has its turn still where that is put last or first, or settles (`one_tail`; `settles`), has one where none is left (`loses`),
+-- the tail of 0 isn't what it should be, and all others are the same (the histories are those of `quiet_tails`): it has
+-- its turn still where that is put last or first, or settles (`one_tail`; `settles`), has one where none is left
+-- (`loses`),
 -- or none where it gets one (`goes_on`)
 own_tail_kept :
-    IsNoRun of_lock quiet_each (turns_by 0 one_quiet ++ whole_of of_lock [] both)
+    ((q : ℕ) → 0 ≢ q → of_two two_quiet one_quiet q ≡ both q)
+    × IsNoRun of_lock quiet_each (turns_by 0 one_quiet ++ whole_of of_lock [] both)
     × IsNoRun of_lock quiet_each (whole_of of_lock (turns_by 0 one_quiet ++ []) both)
     × IsNoRun of_lock quiet_each (whole_of of_lock (turns_by 0 (upto 9 one_quiet) ++ []) both)
     × IsNoRun of_lock quiet_each (whole_of of_lock [] (of_two two_quiet one_quiet))
     × (labels_of 0 (whole_of of_lock [] of_none) ≢ labels_of 0 (by 0 Label.Quiet ∷ whole_of of_lock [] of_none))
 own_tail_kept = (
+  (with_zero one_quiet one_quiet two_quiet).same,
   refl,
   refl,
   refl,
@@ -423,14 +433,21 @@ own_tail_kept = (
   others_are (labels_of 0 (whole_of of_lock [] of_none)) (labels_of 0 (by 0 Label.Quiet ∷ whole_of of_lock [] of_none)) refl,
 )
 
--- the tail of 0 is what it should be, and that of 1 isn't what it was: it has no turn (`one_tail`; `settles`), one too many (`loses`), or one from nowhere (`goes_on`)
+-- the tail of 0 is what it should be, and that of 1 isn't what it was: it has no turn (`one_tail`; `settles`), one too
+-- many (`loses`), or one from nowhere (`goes_on`)
 other_tail_changed :
-    (labels_of 1 (turns_by 0 one_quiet ++ whole_of of_lock [] of_none) ≢ labels_of 1 (whole_of of_lock [] both))
+    (of_none 0 ≡ past 9 one_quiet)
+    × (of_two [] two_quiet 0 ≡ upto 0 one_quiet)
+    × (both 0 ≡ Label.Quiet ∷ of_none 0)
+    × (labels_of 1 (turns_by 0 one_quiet ++ whole_of of_lock [] of_none) ≢ labels_of 1 (whole_of of_lock [] both))
     × (labels_of 1 (whole_of of_lock (turns_by 0 one_quiet ++ []) of_none) ≢ labels_of 1 (whole_of of_lock [] both))
     × (labels_of 1 (whole_of of_lock (turns_by 0 (upto 9 one_quiet) ++ []) of_none) ≢ labels_of 1 (whole_of of_lock [] both))
     × IsNoRun of_lock quiet_each (whole_of of_lock [] (of_two [] two_quiet))
     × (labels_of 1 (whole_of of_lock [] both) ≢ labels_of 1 (by 0 Label.Quiet ∷ whole_of of_lock [] of_none))
 other_tail_changed = (
+  refl,
+  refl,
+  refl,
   others_are (labels_of 1 (turns_by 0 one_quiet ++ whole_of of_lock [] of_none)) (labels_of 1 (whole_of of_lock [] both)) refl,
   others_are (labels_of 1 (whole_of of_lock (turns_by 0 one_quiet ++ []) of_none)) (labels_of 1 (whole_of of_lock [] both)) refl,
   others_are (labels_of 1 (whole_of of_lock (turns_by 0 (upto 9 one_quiet) ++ []) of_none)) (labels_of 1 (whole_of of_lock [] both)) refl,
@@ -440,18 +457,23 @@ other_tail_changed = (
 
 -- `copies_left`: the copies of both are as they should be, and what is said to be left is no run, as 0's tail or 1's has a turn too many
 copies_of_other_tails :
-    HasCopies of_lock quiet_each threads (whole_of of_lock [] both) 0 quiet_copies
+    ((q : ℕ) → 0 ≢ q → of_two two_quiet one_quiet q ≡ both q)
+    × (of_two [] two_quiet 0 ≡ upto 0 one_quiet)
+    × HasCopies of_lock quiet_each threads (whole_of of_lock [] both) 0 quiet_copies
     × HasCopies of_lock quiet_each threads (whole_of of_lock [] both) 1 quiet_copies
     × IsNoRun of_lock quiet_each (whole_of of_lock [] (of_two two_quiet one_quiet))
     × IsNoRun of_lock quiet_each (whole_of of_lock [] (of_two [] two_quiet))
 copies_of_other_tails = (
+  (with_zero one_quiet one_quiet two_quiet).same,
+  refl,
   copies of_lock quiet_each _ 0 quiet_copies refl refl refl refl (tt, λ cell. refl),
   copies of_lock quiet_each _ 1 quiet_copies refl refl refl refl (tt, λ cell. refl),
   refl,
   refl,
 )
 
--- `history_goes_on` (`versions_left`), `newer_alike` (`left`): nothing is lost, but what is said to be left has a store and a version of 0, as its own tail or as another's than 1's
+-- `history_goes_on` (`versions_left`), `newer_alike` (`left`): nothing is lost, but what is said to be left has a store
+-- and a version of 0, as its own tail or as another's than 1's
 abbrev makes_a_version : ℕ → List Want
 makes_a_version = of_two (take_store_give 5) (Want.Quiet ∷ [])
 
@@ -473,7 +495,8 @@ versions_of_other_tails = (
   record { versions = refl; in_part = refl; in_whole = refl; newer_in_part = refl; newer_in_whole = refl },
 )
 
--- A version that isn't made in what is left: 0's tail stores and makes it, and with 1's tail alone (`one_tail`: `versions`; `newer_alike`: `alone`), or with 0's lost (`versions_left`, `left`), there is none.
+-- A version that isn't made in what is left: 0's tail stores and makes it, and with 1's tail alone (`one_tail`:
+-- `versions`; `newer_alike`: `alone`), or with 0's lost (`versions_left`, `left`), there is none.
 version_of_another_tail :
     IsHistory of_lock makes_a_version threads taken (of_two store_and_gave one_quiet)
     × AreWith (of_two store_and_gave one_quiet) 0 (upto 0 store_and_gave) (of_two [] one_quiet)
@@ -519,7 +542,8 @@ order_of_other_tails = (
   refl,
 )
 
--- A turn that its processor doesn't make (`history_goes_on`: `goes_on`): 0 has something quiet to do and doesn't end, and 17 is none of two processors.
+-- A turn that its processor doesn't make (`history_goes_on`: `goes_on`): 0 has something quiet to do and doesn't end, and
+-- 17 is none of two processors.
 
 label_of_nobody :
     AreWith of_none 0 (Label.End ∷ []) (of_two (Label.End ∷ []) [])
@@ -550,7 +574,8 @@ copy_of_a_lost_turn = (
   others_are (labels_of 0 (whole_of of_lock [] of_none)) (own_labels quiet_copies) refl,
 )
 
--- copies that weren't as they should be: 1's cell changes by its quiet turn, and so it is where 0's tail is lost (`others`), or where nothing is lost (`own`)
+-- copies that weren't as they should be: 1's cell changes by its quiet turn, and so it is where 0's tail is lost
+-- (`others`), or where nothing is lost (`own`)
 wrong_copies_stay :
     IsHistory of_lock quiet_each threads [] both
     × (labels_of 1 (whole_of of_lock [] both) ≡ own_labels wrong_copies)

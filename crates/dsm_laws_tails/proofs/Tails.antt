@@ -1,17 +1,15 @@
 -- A history with one tail last or first, and what settles or is lost by its length.
-use Rattle.std.specs.Prelude.{ℕ, ◌≤◌, ◌==◌, if◌then◌else◌, List, [], ◌++◌}
-use Rattle.std.proofs.Common.{arith, refl, sym, ap, ◌∙◌, append-nil}
+use Rattle.std.specs.Prelude.{ℕ, ◌==◌, if◌then◌else◌, List, [], ◌++◌}
+use Rattle.std.proofs.Common.{arith, refl, sym, append-nil}
 use Rattle.dsm_base.specs.declared.label.Label.{Label}
 use Rattle.dsm_base.specs.declared.setup.Setup.{Setup}
 use Rattle.dsm_base.specs.Threads.{Semantics}
-use Rattle.dsm_base.specs.Plain.{Turn, IsPlainRun, after_run}
-use Rattle.dsm_laws_runs.specs.Versions.{SameAt, memory_at}
+use Rattle.dsm_base.specs.Plain.{Turn, IsPlainRun}
 use Rattle.dsm_laws_runs.specs.Swap.{IsRunLike}
-use Rattle.dsm_laws_runs.proofs.Memory.{memory_at_more}
 use Rattle.dsm_laws_tails.specs.Fronts.{upto, past, turns_by, AreWith}
 use Rattle.dsm_laws_tails.specs.Histories.{turns_of_tails, whole_of, IsHistory, IsHistoryLike}
 use Rattle.dsm_laws_tails.proofs.Fronts.{past_upto}
-use Rattle.dsm_laws_tails.proofs.Histories.{older_run, settles, settled_like, last_like, loses, loses_versions}
+use Rattle.dsm_laws_tails.proofs.Histories.{older_run, settles, settled_like, last_like, loses}
 
 -- the tails without one
 abbrev pub tails_but : (ℕ → List Label) → ℕ → ℕ → List Label
@@ -32,12 +30,6 @@ module _ {S : Type 0} (setup : Setup) (first : ℕ → S) (threads : Semantics S
   tail_alone =
       older_run setup first threads (turns_of_tails setup.procs (tails_but tails p)) (turns_by p (tails p) ++ settled) (tail_first (tails_but tails p) (but_one tails p)).is_run
 
-  pub tail_versions : (lock version : ℕ) → version ≤ (after_run first threads (turns_by p (tails p) ++ settled)).versions lock →
-      SameAt setup lock (memory_at first threads (turns_by p (tails p) ++ settled) lock version) (memory_at first threads (whole_of setup settled tails) lock version)
-  tail_versions lock version le cell is_cell =
-      sym (ap (λ memory. memory cell) (memory_at_more first threads (turns_of_tails setup.procs (tails_but tails p)) (turns_by p (tails p) ++ settled) lock version le))
-      ∙ (tail_first (tails_but tails p) (but_one tails p)).same_versions lock version cell is_cell
-
   module _ (k : ℕ) (others : ℕ → List Label) where
     -- the oldest k of p's turns settle, or all but them are lost
     pub oldest_settle : AreWith tails p (past k (tails p)) others → IsHistoryLike setup first threads (turns_by p (upto k (tails p)) ++ settled) others (whole_of setup settled tails)
@@ -45,7 +37,3 @@ module _ {S : Type 0} (setup : Setup) (first : ℕ → S) (threads : Semantics S
 
     pub newest_lost : AreWith tails p (upto k (tails p)) others → IsHistory setup first threads settled others
     newest_lost are = loses setup first threads settled tails is p (past k (tails p)) (upto k (tails p)) (sym (past_upto k (tails p))) others are
-
-    pub versions_left : AreWith tails p (upto k (tails p)) others → (lock version : ℕ) → version ≤ (after_run first threads (whole_of setup settled others)).versions lock →
-        SameAt setup lock (memory_at first threads (whole_of setup settled others) lock version) (memory_at first threads (whole_of setup settled tails) lock version)
-    versions_left are = loses_versions setup first threads settled tails is p (past k (tails p)) (upto k (tails p)) (sym (past_upto k (tails p))) others are

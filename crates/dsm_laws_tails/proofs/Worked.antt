@@ -1,4 +1,5 @@
--- Threads and turns for worked runs, and what is computed of them; what that means is proved in Checks.antt. A thread is a list of what it is still to do.
+-- Threads and turns for worked runs, and what is computed of them; what that means is proved in Checks.antt. A thread is a
+-- list of what it is still to do.
 use Rattle.std.specs.Prelude.{◌≡◌, ℕ, Bool, true, false, ◌&&◌, ◌==◌, not, nat_lt, if◌then◌else◌, List, [], ◌∷◌, ◌++◌, map, Option, Some, None}
 use Rattle.std.specs.List.{list_all}
 use Rattle.std.proofs.Common.{refl}

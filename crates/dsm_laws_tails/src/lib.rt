@@ -41,7 +41,8 @@ pub fn independent()
 {}
 
 /// Any tail of a history may come last or first, so the settled turns with it alone are a plain
-/// run, which has the versions that are made in it as the whole history has them.
+/// run, which has the versions that are made in it as the whole history has them (these also where
+/// threads don't ask first).
 pub fn one_tail<T: Task>()
     ensures last { (setup : Setup) (first : ℕ → T.State) (settled : List Turn)
         (tails : ℕ → List Label) →
@@ -60,8 +61,9 @@ pub fn one_tail<T: Task>()
         (tails : ℕ → List Label) → IsHistory setup first T.kind.semantics settled tails → (p : ℕ) →
         IsPlainRun setup first T.kind.semantics (turns_by p (tails p) ++ settled) }
     ensures versions { (setup : Setup) (first : ℕ → T.State) (settled : List Turn)
-        (tails : ℕ → List Label) →
-        IsHistory setup first T.kind.semantics settled tails → (p lock version : ℕ) →
+        (tails : ℕ → List Label) → AreIndependent setup settled tails →
+        IsPlainRun setup first T.kind.semantics (whole_of setup settled tails) →
+        (p : ℕ) → (setup.procs ≤ p → tails p ≡ []) → (lock version : ℕ) →
         version ≤ (after_run first T.kind.semantics (turns_by p (tails p) ++ settled)).versions lock
         →
         SameAt setup lock
@@ -107,15 +109,16 @@ pub fn history_goes_on<T: Task>()
         AreWith tails p (upto k (tails p)) others →
         IsHistory setup first T.kind.semantics settled others }
     ensures versions_left { (setup : Setup) (first : ℕ → T.State) (settled : List Turn)
-        (tails : ℕ → List Label) →
-        IsHistory setup first T.kind.semantics settled tails → (p k : ℕ) (others : ℕ → List Label) →
+        (tails : ℕ → List Label) → AreIndependent setup settled tails →
+        IsPlainRun setup first T.kind.semantics (whole_of setup settled tails) →
+        (p k : ℕ) (others : ℕ → List Label) →
         AreWith tails p (upto k (tails p)) others → (lock version : ℕ) →
         version ≤ (after_run first T.kind.semantics (whole_of setup settled others)).versions lock →
         SameAt setup lock
         (memory_at first T.kind.semantics (whole_of setup settled others) lock version)
         (memory_at first T.kind.semantics (whole_of setup settled tails) lock version) }
-    ensures course { (setup : Setup) (first : ℕ → T.State) (settled : List Turn)
-        (tails : ℕ → List Label) → IsHistory setup first T.kind.semantics settled tails → (p : ℕ) →
+    ensures course { (setup : Setup) (settled : List Turn) (tails : ℕ → List Label) (p : ℕ) →
+        (setup.procs ≤ p → tails p ≡ []) →
         labels_of p (whole_of setup settled tails) ≡ tails p ++ labels_of p settled }
 {}
 
@@ -140,7 +143,7 @@ pub fn copies_left<T: Task>()
 
 /// Which lines of a lock are newer than a version, up to another, is the same in all plain runs in
 /// which each processor makes the same turns. Once the later version is made it is the same with
-/// one tail alone, and where turns are lost.
+/// one tail alone, and where turns are lost. Threads need not ask first.
 pub fn newer_alike<T: Task>()
     ensures alike { (line_at : ℕ → ℕ) (setup : Setup) (first : ℕ → T.State) (run other : List Turn)
         →
@@ -150,14 +153,16 @@ pub fn newer_alike<T: Task>()
         is_newer line_at setup first T.kind.semantics run lock from to line ≡ is_newer line_at setup
         first T.kind.semantics other lock from to line }
     ensures alone { (line_at : ℕ → ℕ) (setup : Setup) (first : ℕ → T.State) (settled : List Turn)
-        (tails : ℕ → List Label) → IsHistory setup first T.kind.semantics settled tails →
-        (p lock from to line : ℕ) →
+        (tails : ℕ → List Label) → AreIndependent setup settled tails →
+        IsPlainRun setup first T.kind.semantics (whole_of setup settled tails) →
+        (p : ℕ) → (setup.procs ≤ p → tails p ≡ []) → (lock from to line : ℕ) →
         to ≤ (after_run first T.kind.semantics (turns_by p (tails p) ++ settled)).versions lock →
         is_newer line_at setup first T.kind.semantics (turns_by p (tails p) ++ settled) lock from to
         line ≡ is_newer line_at setup first T.kind.semantics (whole_of setup settled tails) lock
         from to line }
     ensures left { (line_at : ℕ → ℕ) (setup : Setup) (first : ℕ → T.State) (settled : List Turn)
-        (tails : ℕ → List Label) → IsHistory setup first T.kind.semantics settled tails →
+        (tails : ℕ → List Label) → AreIndependent setup settled tails →
+        IsPlainRun setup first T.kind.semantics (whole_of setup settled tails) →
         (p k : ℕ) (others : ℕ → List Label) → AreWith tails p (upto k (tails p)) others →
         (lock from to line : ℕ) →
         to ≤ (after_run first T.kind.semantics (whole_of setup settled others)).versions lock →

@@ -1,5 +1,6 @@
 use Rattle.dsm_laws_tails.proofs.Histories.{starts, goes_on, course_is}
-use Rattle.dsm_laws_tails.proofs.Tails.{oldest_settle, newest_lost, versions_left}
+use Rattle.dsm_laws_tails.proofs.Tails.{oldest_settle, newest_lost}
+use Rattle.dsm_laws_tails.proofs.OlderParts.{left}
 use Rattle.dsm_laws_tails.proofs.history_goes_on.Goals as goal
 
 pub returns-clause-starts : goal.returns-clause-starts
@@ -15,7 +16,8 @@ pub returns-clause-loses : goal.returns-clause-loses
 returns-clause-loses g c = λ setup first settled tails is p k others are. newest_lost setup first g.T.Task.kind.semantics settled tails is p k others are
 
 pub returns-clause-versions_left : goal.returns-clause-versions_left
-returns-clause-versions_left g c = λ setup first settled tails is p k others are. versions_left setup first g.T.Task.kind.semantics settled tails is p k others are
+returns-clause-versions_left g c = λ setup first settled tails free is_run p k others are lock version le.
+    (left (λ cell. cell) setup first g.T.Task.kind.semantics lock settled tails free is_run p k others are).made version le
 
 pub returns-clause-course : goal.returns-clause-course
-returns-clause-course g c = λ setup first settled tails is p. course_is setup first g.T.Task.kind.semantics settled tails is p
+returns-clause-course g c = λ setup settled tails p none. course_is setup settled tails p none

@@ -1,4 +1,5 @@
-use Rattle.dsm_laws_tails.proofs.Tails.{tail_last, tail_first, tail_alone, tail_versions}
+use Rattle.dsm_laws_tails.proofs.Tails.{tail_last, tail_first, tail_alone}
+use Rattle.dsm_laws_tails.proofs.OlderParts.{alone}
 use Rattle.dsm_laws_tails.proofs.one_tail.Goals as goal
 
 pub returns-clause-last : goal.returns-clause-last
@@ -11,4 +12,5 @@ pub returns-clause-alone : goal.returns-clause-alone
 returns-clause-alone g c = λ setup first settled tails is p. tail_alone setup first g.T.Task.kind.semantics settled tails is p
 
 pub returns-clause-versions : goal.returns-clause-versions
-returns-clause-versions g c = λ setup first settled tails is p lock version le. tail_versions setup first g.T.Task.kind.semantics settled tails is p lock version le
+returns-clause-versions g c = λ setup first settled tails free is_run p none lock version le.
+    (alone (λ cell. cell) setup first g.T.Task.kind.semantics lock settled tails free is_run p none).made version le
