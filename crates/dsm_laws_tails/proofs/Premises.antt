@@ -1,7 +1,9 @@
 -- Cases in which a law of runs would fail without one of its premises. Each computes the other premises, and what is
 -- otherwise than the law says.
 use Rattle.std.specs.Prelude.{◌≡◌, ◌≢◌, ℕ, ℤ, pos, true, false, ◌==◌, nat_le, if◌then◌else◌, List, [], ◌∷◌, Some}
-use Rattle.std.proofs.Common.{arith, refl}
+use Rattle.std.proofs.Common.{arith, refl, sym}
+use Rattle.dsm_base.specs.declared.names.Lock.{Lock}
+use Rattle.dsm_base.specs.declared.names.Bar.{Bar}
 use Rattle.dsm_base.specs.declared.names.Mode.{Mode}
 use Rattle.dsm_base.specs.declared.label.Label.{Label}
 use Rattle.dsm_base.specs.declared.label.Want.{Want}
@@ -10,13 +12,16 @@ use Rattle.dsm_base.specs.declared.setup.Piece.{Piece}
 use Rattle.dsm_base.specs.declared.setup.Setup.{Setup}
 use Rattle.dsm_base.specs.Access.{may_load, piece_of, is_phase}
 use Rattle.dsm_base.specs.Agrees.{is_between}
-use Rattle.dsm_base.specs.Plain.{Turn, after_run, labels_of, plain_turn, seen_by}
+use Rattle.dsm_base.specs.Threads.{Semantics, AsksFirst, state_after}
+use Rattle.dsm_base.specs.Plain.{PlainState, Turn, IsPlainRun, plain_after, after_run, labels_of, plain_turn, seen_by}
 use Rattle.dsm_laws_runs.specs.Barriers.{is_owned, stored_by, until_arrival}
 use Rattle.dsm_laws_runs.specs.Copies.{OwnTurn, HasCopies, AreAdequate, own_labels, newest_copy, memories_of}
 use Rattle.dsm_laws_runs.specs.Epochs.{wants_cross}
 use Rattle.dsm_laws_runs.specs.OwnPart.{arrived_of, crossed_of}
 use Rattle.dsm_laws_runs.specs.Pieces.{is_bar}
+use Rattle.dsm_base.proofs.Families.{update_back}
 use Rattle.dsm_laws_runs.specs.Swap.{rests_on, clashes, IsFree}
+use Rattle.dsm_laws_runs.specs.Versions.{SameAt, memory_at}
 use Rattle.dsm_laws_tails.proofs.Worked.{threads, the_lock, the_bar, the_cell, of_lock, in_even_epochs, in_odd_epochs, of_two, by, IsMade, IsNoRun, AllAsk}
 use Rattle.dsm_laws_tails.proofs.Checks.{others_are, copies}
 
@@ -408,6 +413,69 @@ copies_of_other_labels = (
   copies of_lock quiet_each [] 0 [] refl refl refl refl tt,
   others_are [] (own_labels quiet_copies) refl,
   others_are (labels_of 0 quiet_zero) [] refl,
+  others_are [] (own_labels quiet_copies) refl,
+)
+
+-- (`alike`) so it is also where the other run leaves the same state and versions: threads that stay as they are by a quiet turn
+abbrev steady_want : ℕ → Want
+steady_want place = if place == 0 then Want.Quiet else Want.Over
+
+abbrev steady_after : ℕ → Label → ℕ
+steady_after place (Label.Stop fault line) = 1
+steady_after place Label.End = 1
+steady_after place _ = place
+
+abbrev steady : Semantics ℕ
+steady = record { want = steady_want; text = λ place. []; after = steady_after }
+
+abbrev at_zero : ℕ → ℕ
+at_zero p = 0
+
+module _ (place : ℕ) where
+  steady_takes : (lock : Lock) (mode : Mode) → steady_want place ≢ Want.Take lock mode
+  steady_takes lock mode e = grind arith
+
+  steady_crosses : (bar : Bar) → steady_want place ≢ Want.Cross bar
+  steady_crosses bar e = grind arith
+
+  steady_asks : (lock : Lock) (mode : Mode) (line : ℕ) → steady_want place ≢ Want.Ask lock mode line
+  steady_asks lock mode line e = grind arith
+
+  steady_arrives : (bar : Bar) → steady_want place ≢ Want.Arrive bar
+  steady_arrives bar e = grind arith
+
+steady_asks_first : AsksFirst steady 0
+steady_asks_first = record {
+  no_take = steady_takes 0;
+  no_cross = steady_crosses 0;
+  takes = λ labels lock mode line e. absurd (steady_asks (state_after steady 0 labels) lock mode line e);
+  crosses = λ labels bar e. absurd (steady_arrives (state_after steady 0 labels) bar e);
+  took = λ labels answer label lock mode done e. absurd (steady_takes (steady_after (state_after steady 0 labels) label) lock mode e);
+  crossed = λ labels answer label bar done e. absurd (steady_crosses (steady_after (state_after steady 0 labels) label) bar e);
+  stops = λ labels fault line. refl;
+  ends = λ labels. refl;
+}
+
+quiet_stays : (s : PlainState ℕ) → s ≡ plain_after steady s 0 Label.Quiet
+quiet_stays s = sym (rw (update_back s.threads 0, update_back s.held 0, update_back s.arrived 0, update_back s.crossed 0) refl)
+
+copies_of_steady_threads :
+    HasCopies of_lock at_zero steady quiet_zero 0 quiet_copies
+    × IsPlainRun of_lock at_zero steady []
+    × (after_run at_zero steady [] ≡ after_run at_zero steady quiet_zero)
+    × ((lock version : ℕ) → SameAt of_lock lock (memory_at at_zero steady [] lock version) (memory_at at_zero steady quiet_zero lock version))
+    × (labels_of 0 [] ≢ own_labels quiet_copies)
+copies_of_steady_threads = (
+  record {
+    ask_first = record { asks = λ p lt. steady_asks_first };
+    is_run = (tt, record { is_processor = omega arith; is_label = refl });
+    is_processor = omega arith;
+    same_labels = refl;
+    adequate = (tt, λ cell. refl);
+  },
+  tt,
+  quiet_stays (after_run at_zero steady []),
+  λ lock version cell is. refl,
   others_are [] (own_labels quiet_copies) refl,
 )
 

@@ -322,11 +322,13 @@ runs_of_nobody = record {
 
 -- `history_goes_on` (`goes_on`): 1's turn fits, but 0's before it is nobody's
 turn_after_nobodys : let first = of_two [] (Want.Quiet ∷ []) in
-    AreIndependent of_lock [] (of_two one_quiet one_quiet)
+    AllAsk of_lock first
+    × AreIndependent of_lock [] (of_two one_quiet one_quiet)
     × AreWith (of_two one_quiet []) 1 one_quiet (of_two one_quiet one_quiet)
     × IsPlainTurn of_lock threads (after_run first threads (whole_of of_lock [] (of_two one_quiet []))) (by 1 Label.Quiet)
     × IsNoRun of_lock first (whole_of of_lock [] (of_two one_quiet one_quiet))
 turn_after_nobodys = (
+  refl,
   are_independent of_lock [] one_quiet one_quiet refl refl,
   with_one one_quiet [] one_quiet,
   record { is_processor = omega arith; is_label = refl },
@@ -419,6 +421,7 @@ quiet_tails = (history of_lock quiet_each [] one_quiet one_quiet refl refl refl 
 -- or none where it gets one (`goes_on`)
 own_tail_kept :
     ((q : ℕ) → 0 ≢ q → of_two two_quiet one_quiet q ≡ both q)
+    × IsMade of_lock quiet_each (by 0 Label.Quiet ∷ whole_of of_lock [] of_none)
     × IsNoRun of_lock quiet_each (turns_by 0 one_quiet ++ whole_of of_lock [] both)
     × IsNoRun of_lock quiet_each (whole_of of_lock (turns_by 0 one_quiet ++ []) both)
     × IsNoRun of_lock quiet_each (whole_of of_lock (turns_by 0 (upto 9 one_quiet) ++ []) both)
@@ -426,6 +429,7 @@ own_tail_kept :
     × (labels_of 0 (whole_of of_lock [] of_none) ≢ labels_of 0 (by 0 Label.Quiet ∷ whole_of of_lock [] of_none))
 own_tail_kept = (
   (with_zero one_quiet one_quiet two_quiet).same,
+  refl,
   refl,
   refl,
   refl,
@@ -578,7 +582,16 @@ copy_of_a_lost_turn = (
 -- (`others`), or where nothing is lost (`own`)
 wrong_copies_stay :
     IsHistory of_lock quiet_each threads [] both
+    × AreWith both 0 (upto 0 one_quiet) (of_two [] one_quiet)
+    × AreWith both 1 (upto 1 one_quiet) both
     × (labels_of 1 (whole_of of_lock [] both) ≡ own_labels wrong_copies)
     × (AreAdequate of_lock (memories_of of_lock quiet_each threads (whole_of of_lock [] (of_two [] one_quiet))) 1 wrong_copies → ⊥)
     × (AreAdequate of_lock (memories_of of_lock quiet_each threads (whole_of of_lock [] both)) 1 wrong_copies → ⊥)
-wrong_copies_stay = (quiet_tails.0, refl, λ are. one_isnt_zero (are.1 0), λ are. one_isnt_zero (are.1 0))
+wrong_copies_stay = (
+  quiet_tails.0,
+  with_zero one_quiet one_quiet [],
+  with_one one_quiet one_quiet one_quiet,
+  refl,
+  λ are. one_isnt_zero (are.1 0),
+  λ are. one_isnt_zero (are.1 0),
+)

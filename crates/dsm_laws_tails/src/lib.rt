@@ -128,13 +128,13 @@ pub fn history_goes_on<T: Task>()
 pub fn copies_left<T: Task>()
     ensures others { (setup : Setup) (first : ℕ → T.State) (settled : List Turn)
         (tails : ℕ → List Label) →
-        IsHistory setup first T.kind.semantics settled tails → (p k : ℕ) (others : ℕ → List Label) →
+        AreIndependent setup settled tails → (p k : ℕ) (others : ℕ → List Label) →
         AreWith tails p (upto k (tails p)) others → (q : ℕ) → p ≢ q → (turns : List OwnTurn) →
         HasCopies setup first T.kind.semantics (whole_of setup settled tails) q turns →
         HasCopies setup first T.kind.semantics (whole_of setup settled others) q turns }
     ensures own { (setup : Setup) (first : ℕ → T.State) (settled : List Turn)
         (tails : ℕ → List Label) →
-        IsHistory setup first T.kind.semantics settled tails → (p k : ℕ) (others : ℕ → List Label) →
+        AreIndependent setup settled tails → (p k : ℕ) (others : ℕ → List Label) →
         AreWith tails p (upto k (tails p)) others → (newest oldest : List OwnTurn) →
         length newest ≡ length (past k (tails p)) →
         HasCopies setup first T.kind.semantics (whole_of setup settled tails) p (newest ++ oldest) →
