@@ -272,6 +272,29 @@ give_give = (refl, refl, refl, refl)
 give_take : Free (gives Mode.Shared 0) (takes Mode.Shared 0)
 give_take = (refl, refl, refl, refl)
 
+-- beside an exclusive hold there are no such neighbours: 1 can't take what 0 has taken so, 0 can't take what 1 holds so,
+-- and who holds nothing stops in the place of its give
+abbrev both_take : ℕ → List Want
+both_take = of_two (takes Mode.Excl 0).wants (gives Mode.Excl 0).wants
+
+-- both have asked, and 0 has taken, or 1
+abbrev both_asked : List Turn
+both_asked = by 0 (Label.Take (lock 0) Mode.Excl 0) ∷ by 1 (Label.Ask (lock 0) Mode.Excl) ∷ by 0 (Label.Ask (lock 0) Mode.Excl) ∷ []
+
+abbrev one_holds : List Turn
+one_holds = by 1 (Label.Take (lock 0) Mode.Excl 0) ∷ by 1 (Label.Ask (lock 0) Mode.Excl) ∷ by 0 (Label.Ask (lock 0) Mode.Excl) ∷ []
+
+exclusive_take_take : (all_ask setup both_take ≡ true) × IsMade setup both_take both_asked × (plain_turn setup threads (after_run both_take threads both_asked) 1 ≡ None)
+exclusive_take_take = (refl, refl, refl)
+
+exclusive_take_give : (all_ask setup both_take ≡ true) × IsMade setup both_take one_holds × (plain_turn setup threads (after_run both_take threads one_holds) 0 ≡ None)
+exclusive_take_give = (refl, refl, refl)
+
+exclusive_give_give : let first = of_two (gives Mode.Excl 0).wants (Want.Give (lock 0) 7 ∷ []) in
+    (all_ask setup first ≡ true)
+    × IsMade setup first (by 1 (Label.Stop Fault.NotHeld 7) ∷ by 0 (Label.Give (lock 0)) ∷ turns_by 0 (gives Mode.Excl 0).made)
+exclusive_give_give = (refl, refl)
+
 -- 0 gives the lock back, and 1 takes it with a version
 abbrev GiveThenTake : Mode → Mode → ℕ → Type 0
 GiveThenTake given taken version =
