@@ -14,9 +14,12 @@ use std::alloc::Global;
 /// What the label of a turn does to the copy. Answers the lines that it gives to others.
 fn label_copy(alloc: Global, copy: &mut OwnCopy, label: &Label) -> Result<LineList, MemFault>
     requires { StoresBound (copy_pieces copy.old) label.now }
-    ensures given { IfOk result (λ given. given ≡ given_lines (copy_pieces copy.old) (copy_marks copy.old) (copy_memory copy.old) label.now) }
-    ensures memory { OnOk result (copy_memory copy.new ≡ memory_after (copy_memory copy.old) label.now) }
-    ensures marks { OnOk result (copy_marks copy.new ≡ dirty_after (copy_pieces copy.old) (copy_marks copy.old) label.now) }
+    ensures given { IfOk result (λ given. given ≡
+        given_lines (copy_pieces copy.old) (copy_marks copy.old) (copy_memory copy.old) label.now) }
+    ensures memory { OnOk result (copy_memory copy.new ≡
+        memory_after (copy_memory copy.old) label.now) }
+    ensures marks { OnOk result (copy_marks copy.new ≡
+        dirty_after (copy_pieces copy.old) (copy_marks copy.old) label.now) }
     ensures pieces { OnOk result (copy_pieces copy.new ≡ copy_pieces copy.old) }
 {
     match label {
@@ -40,9 +43,12 @@ pub fn change_copy(
     lines: &LineList,
 ) -> Result<LineList, MemFault>
     requires { StoresBound (copy_pieces copy.old) label.now }
-    ensures given { IfOk result (λ given. given ≡ given_lines (copy_pieces copy.old) (copy_marks copy.old) (copy_memory copy.old) label.now) }
-    ensures memory { OnOk result (copy_memory copy.new ≡ overlaid (copy_pieces copy.old) (memory_after (copy_memory copy.old) label.now) lines.now) }
-    ensures marks { OnOk result (copy_marks copy.new ≡ dirty_after (copy_pieces copy.old) (copy_marks copy.old) label.now) }
+    ensures given { IfOk result (λ given. given ≡
+        given_lines (copy_pieces copy.old) (copy_marks copy.old) (copy_memory copy.old) label.now) }
+    ensures memory { OnOk result (copy_memory copy.new ≡
+        overlaid (copy_pieces copy.old) (memory_after (copy_memory copy.old) label.now) lines.now) }
+    ensures marks { OnOk result (copy_marks copy.new ≡
+        dirty_after (copy_pieces copy.old) (copy_marks copy.old) label.now) }
     ensures pieces { OnOk result (copy_pieces copy.new ≡ copy_pieces copy.old) }
 {
     let given = label_copy(alloc, copy, label)?;

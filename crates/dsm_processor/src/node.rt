@@ -71,7 +71,8 @@ impl<T: Task> Node<T> {
         requires me { me.0 < setup.value.procs }
         requires table { table.value ≡ setup.value.bindings }
         requires stays { StaysWithin setup.value T.kind.semantics (T.kind.state task) }
-        ensures processor { IfOk result (λ node. processor_of T.kind node ≡ start_processor (T.kind.state task)) }
+        ensures processor { IfOk result (λ node. processor_of T.kind node ≡
+            start_processor (T.kind.state task)) }
         ensures whole { IfOk result (IsWhole T.kind) }
         ensures setup { IfOk result (λ node. setup_of node ≡ setup.value) }
         ensures me { IfOk result (λ node. me_of node ≡ me.0) }

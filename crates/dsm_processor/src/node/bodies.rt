@@ -107,7 +107,9 @@ impl<T: Task> Node<T> {
     /// The lines of a lock that were stored to after a version.
     fn newer_lines(&self, lock: Lock, version: u32) -> Result<LineList, MemFault>
         requires { IsShaped self.now }
-        ensures { IfOk result (λ lines. lines ≡ newer_lines (setup_of self.now).bindings (processor_of T.kind self.now).lines.stamps (processor_of T.kind self.now).lines.values lock version) }
+        ensures { IfOk result (λ lines. lines ≡
+            newer_lines (setup_of self.now).bindings (processor_of T.kind self.now).lines.stamps
+            (processor_of T.kind self.now).lines.values lock version) }
     {
         self.home.newer(lock, version)
     }
@@ -116,7 +118,8 @@ impl<T: Task> Node<T> {
     fn own_grant(&self, lock: Lock, one: Waiting) -> Result<MailGrant, MemFault>
         requires shape { IsShaped self.now }
         requires lock { lock.0 < (setup_of self.now).locks }
-        ensures { IfOk result (λ grant. grant ≡ own_grant (setup_of self.now) (processor_of T.kind self.now) lock one) }
+        ensures { IfOk result (λ grant. grant ≡
+            own_grant (setup_of self.now) (processor_of T.kind self.now) lock one) }
     {
         Ok(MailGrant {
             turn: one.turn,
@@ -131,7 +134,9 @@ impl<T: Task> Node<T> {
     fn grant_message(&self, lock: Lock, one: Waiting) -> Result<Msg, MemFault>
         requires shape { IsShaped self.now }
         requires lock { lock.0 < (setup_of self.now).locks }
-        ensures { IfOk result (λ msg. msg ≡ grant_message (setup_of self.now) (me_of self.now) (processor_of T.kind self.now) lock one) }
+        ensures { IfOk result (λ msg. msg ≡
+            grant_message (setup_of self.now) (me_of self.now) (processor_of T.kind self.now) lock
+            one) }
     {
         let body = Body::Grant {
             lock,
@@ -147,7 +152,9 @@ impl<T: Task> Node<T> {
     fn own_grants(&self, lock: Lock, granted: &Queue) -> Result<Vec<MailGrant>, MemFault>
         requires shape { IsShaped self.now }
         requires lock { lock.0 < (setup_of self.now).locks }
-        ensures { IfOk result (λ grants. grants.items ≡ map (own_grant (setup_of self.now) (processor_of T.kind self.now) lock) (filter (is_of (me_of self.now)) granted.now)) }
+        ensures { IfOk result (λ grants. grants.items ≡
+            map (own_grant (setup_of self.now) (processor_of T.kind self.now) lock)
+            (filter (is_of (me_of self.now)) granted.now)) }
     {
         let mut grants = Vec::new(self.alloc);
         for one in granted.as_slice() {
@@ -162,7 +169,9 @@ impl<T: Task> Node<T> {
     fn grant_messages(&self, lock: Lock, granted: &Queue) -> Result<Sends, MemFault>
         requires shape { IsShaped self.now }
         requires lock { lock.0 < (setup_of self.now).locks }
-        ensures { IfOk result (λ sends. sends ≡ map (grant_message (setup_of self.now) (me_of self.now) (processor_of T.kind self.now) lock) (filter (λ one. not (is_of (me_of self.now) one)) granted.now)) }
+        ensures { IfOk result (λ sends. sends ≡
+            map (grant_message (setup_of self.now) (me_of self.now) (processor_of T.kind self.now)
+            lock) (filter (λ one. not (is_of (me_of self.now) one)) granted.now)) }
     {
         let mut sends = Items::new(self.alloc);
         for one in granted.as_slice() {
@@ -177,12 +186,17 @@ impl<T: Task> Node<T> {
     fn send_grants(&mut self, lock: Lock, granted: &Queue) -> Result<Sends, MemFault>
         requires shape { IsShaped self.old }
         requires lock { lock.0 < (setup_of self.old).locks }
-        ensures sends { IfOk result (λ sends. sends ≡ map (grant_message (setup_of self.old) (me_of self.old) (processor_of T.kind self.old) lock) (filter (λ one. not (is_of (me_of self.old) one)) granted.now)) }
-        ensures processor { OnOk result (processor_of T.kind self.new ≡ record (processor_of T.kind self.old) {
-          mail = record (processor_of T.kind self.old).mail {
-            grants = (processor_of T.kind self.old).mail.grants ++ map (own_grant (setup_of self.old) (processor_of T.kind self.old) lock) (filter (is_of (me_of self.old)) granted.now);
-          };
-        }) }
+        ensures sends { IfOk result (λ sends. sends ≡
+            map (grant_message (setup_of self.old) (me_of self.old) (processor_of T.kind self.old)
+            lock) (filter (λ one. not (is_of (me_of self.old) one)) granted.now)) }
+        ensures processor { OnOk result (processor_of T.kind self.new ≡
+            record (processor_of T.kind self.old) {
+              mail = record (processor_of T.kind self.old).mail {
+                grants = (processor_of T.kind self.old).mail.grants ++
+                    map (own_grant (setup_of self.old) (processor_of T.kind self.old) lock)
+                    (filter (is_of (me_of self.old)) granted.now);
+              };
+            }) }
         ensures shape { OnOk result (IsShaped self.new) }
         ensures same { IsSameNode self.old self.new }
     {
@@ -196,7 +210,8 @@ impl<T: Task> Node<T> {
     fn may_ask(&self, from: Proc, turn: u32, lock: Lock) -> bool
         requires shape { IsShaped self.now }
         requires lock { lock.0 < (setup_of self.now).locks }
-        ensures { result ≡ (nat_lt ((processor_of T.kind self.now).peers from.0).last turn && may_ask ((processor_of T.kind self.now).locks lock.0) from.0) }
+        ensures { result ≡ (nat_lt ((processor_of T.kind self.now).peers from.0).last turn &&
+            may_ask ((processor_of T.kind self.now).locks lock.0) from.0) }
     {
         self.peers.last(from) < turn
             && !self.home.holds(lock, from).is_some()
@@ -215,7 +230,8 @@ impl<T: Task> Node<T> {
     ) -> bool
         requires shape { IsShaped self.now }
         requires lock { lock.0 < (setup_of self.now).locks }
-        ensures { result ≡ (nat_lt ((processor_of T.kind self.now).peers from.0).last turn && may_give ((processor_of T.kind self.now).locks lock.0) from.0 mode version lines.now) }
+        ensures { result ≡ (nat_lt ((processor_of T.kind self.now).peers from.0).last turn &&
+            may_give ((processor_of T.kind self.now).locks lock.0) from.0 mode version lines.now) }
     {
         self.peers.last(from) < turn
             && is_mode(mode, self.home.holds(lock, from))
@@ -235,8 +251,12 @@ impl<T: Task> Node<T> {
         requires shape { IsShaped self.old }
         requires from { from.0 < (setup_of self.old).procs }
         requires lock { lock.0 < (setup_of self.old).locks }
-        ensures sends { IfOk result (λ sends. sends ≡ (effect_of (setup_of self.old) (me_of self.old) (processor_of T.kind self.old) from.0 turn (Body.Req lock mode «have»)).sends) }
-        ensures processor { OnOk result (processor_of T.kind self.new ≡ (effect_of (setup_of self.old) (me_of self.old) (processor_of T.kind self.old) from.0 turn (Body.Req lock mode «have»)).processor) }
+        ensures sends { IfOk result (λ sends. sends ≡
+            (effect_of (setup_of self.old) (me_of self.old) (processor_of T.kind self.old) from.0
+            turn (Body.Req lock mode «have»)).sends) }
+        ensures processor { OnOk result (processor_of T.kind self.new ≡
+            (effect_of (setup_of self.old) (me_of self.old) (processor_of T.kind self.old) from.0
+            turn (Body.Req lock mode «have»)).processor) }
         ensures shape { OnOk result (IsShaped self.new) }
         ensures same { IsSameNode self.old self.new }
     {
@@ -260,8 +280,12 @@ impl<T: Task> Node<T> {
         requires from { from.0 < (setup_of self.old).procs }
         requires lock { lock.0 < (setup_of self.old).locks }
         requires lines { AreNumbered (setup_of self.old).bindings lines.now }
-        ensures sends { IfOk result (λ sends. sends ≡ (effect_of (setup_of self.old) (me_of self.old) (processor_of T.kind self.old) from.0 turn (Body.Release lock mode version lines.now)).sends) }
-        ensures processor { OnOk result (processor_of T.kind self.new ≡ (effect_of (setup_of self.old) (me_of self.old) (processor_of T.kind self.old) from.0 turn (Body.Release lock mode version lines.now)).processor) }
+        ensures sends { IfOk result (λ sends. sends ≡
+            (effect_of (setup_of self.old) (me_of self.old) (processor_of T.kind self.old) from.0
+            turn (Body.Release lock mode version lines.now)).sends) }
+        ensures processor { OnOk result (processor_of T.kind self.new ≡
+            (effect_of (setup_of self.old) (me_of self.old) (processor_of T.kind self.old) from.0
+            turn (Body.Release lock mode version lines.now)).processor) }
         ensures shape { OnOk result (IsShaped self.new) }
         ensures same { IsSameNode self.old self.new }
     {
@@ -282,8 +306,12 @@ impl<T: Task> Node<T> {
         requires shape { IsShaped self.old }
         requires from { from.0 < (setup_of self.old).procs }
         requires lock { lock.0 < (setup_of self.old).locks }
-        ensures sends { IfOk result (λ sends. sends ≡ (effect_of_body (setup_of self.old) (me_of self.old) (processor_of T.kind self.old) from.0 turn (Body.Req lock mode «have»)).sends) }
-        ensures processor { OnOk result (processor_of T.kind self.new ≡ (effect_of_body (setup_of self.old) (me_of self.old) (processor_of T.kind self.old) from.0 turn (Body.Req lock mode «have»)).processor) }
+        ensures sends { IfOk result (λ sends. sends ≡
+            (effect_of_body (setup_of self.old) (me_of self.old) (processor_of T.kind self.old)
+            from.0 turn (Body.Req lock mode «have»)).sends) }
+        ensures processor { OnOk result (processor_of T.kind self.new ≡
+            (effect_of_body (setup_of self.old) (me_of self.old) (processor_of T.kind self.old)
+            from.0 turn (Body.Req lock mode «have»)).processor) }
         ensures shape { OnOk result (IsShaped self.new) }
         ensures same { IsSameNode self.old self.new }
     {
@@ -308,8 +336,12 @@ impl<T: Task> Node<T> {
         requires from { from.0 < (setup_of self.old).procs }
         requires lock { lock.0 < (setup_of self.old).locks }
         requires lines { AreNumbered (setup_of self.old).bindings lines.now }
-        ensures sends { IfOk result (λ sends. sends ≡ (effect_of_body (setup_of self.old) (me_of self.old) (processor_of T.kind self.old) from.0 turn (Body.Release lock mode version lines.now)).sends) }
-        ensures processor { OnOk result (processor_of T.kind self.new ≡ (effect_of_body (setup_of self.old) (me_of self.old) (processor_of T.kind self.old) from.0 turn (Body.Release lock mode version lines.now)).processor) }
+        ensures sends { IfOk result (λ sends. sends ≡
+            (effect_of_body (setup_of self.old) (me_of self.old) (processor_of T.kind self.old)
+            from.0 turn (Body.Release lock mode version lines.now)).sends) }
+        ensures processor { OnOk result (processor_of T.kind self.new ≡
+            (effect_of_body (setup_of self.old) (me_of self.old) (processor_of T.kind self.old)
+            from.0 turn (Body.Release lock mode version lines.now)).processor) }
         ensures shape { OnOk result (IsShaped self.new) }
         ensures same { IsSameNode self.old self.new }
     {
@@ -325,8 +357,12 @@ impl<T: Task> Node<T> {
         requires shape { IsShaped self.old }
         requires from { from.0 < (setup_of self.old).procs }
         requires names { BodyNames (setup_of self.old) body }
-        ensures sends { IfOk result (λ sends. sends ≡ (effect_of_body (setup_of self.old) (me_of self.old) (processor_of T.kind self.old) from.0 turn body).sends) }
-        ensures processor { OnOk result (processor_of T.kind self.new ≡ (effect_of_body (setup_of self.old) (me_of self.old) (processor_of T.kind self.old) from.0 turn body).processor) }
+        ensures sends { IfOk result (λ sends. sends ≡
+            (effect_of_body (setup_of self.old) (me_of self.old) (processor_of T.kind self.old)
+            from.0 turn body).sends) }
+        ensures processor { OnOk result (processor_of T.kind self.new ≡
+            (effect_of_body (setup_of self.old) (me_of self.old) (processor_of T.kind self.old)
+            from.0 turn body).processor) }
         ensures shape { OnOk result (IsShaped self.new) }
         ensures same { IsSameNode self.old self.new }
     {
@@ -363,8 +399,12 @@ impl<T: Task> Node<T> {
         requires whole { IsWhole T.kind self.old }
         requires from { from.0 < (setup_of self.old).procs }
         requires names { BodyNames (setup_of self.old) body }
-        ensures sends { IfOk result (λ sends. sends ≡ (effect_of_body (setup_of self.old) (me_of self.old) (processor_of T.kind self.old) from.0 turn body).sends) }
-        ensures processor { OnOk result (processor_of T.kind self.new ≡ (effect_of_body (setup_of self.old) (me_of self.old) (processor_of T.kind self.old) from.0 turn body).processor) }
+        ensures sends { IfOk result (λ sends. sends ≡
+            (effect_of_body (setup_of self.old) (me_of self.old) (processor_of T.kind self.old)
+            from.0 turn body).sends) }
+        ensures processor { OnOk result (processor_of T.kind self.new ≡
+            (effect_of_body (setup_of self.old) (me_of self.old) (processor_of T.kind self.old)
+            from.0 turn body).processor) }
         ensures whole { OnOk result (IsWhole T.kind self.new) }
         ensures within { IfOk result (All (IsSendOf (setup_of self.old) (me_of self.old))) }
         ensures same { IsSameNode self.old self.new }
@@ -376,7 +416,8 @@ impl<T: Task> Node<T> {
     fn send(&self, to: Proc, body: Body) -> Result<Sends, MemFault>
         requires to { to.0 < (setup_of self.now).procs }
         requires names { BodyNames (setup_of self.now) body }
-        ensures sends { IfOk result (λ sends. sends ≡ message (me_of self.now) (processor_of T.kind self.now) to.0 body ∷ []) }
+        ensures sends { IfOk result (λ sends. sends ≡
+            message (me_of self.now) (processor_of T.kind self.now) to.0 body ∷ []) }
         ensures within { IfOk result (All (IsSendOf (setup_of self.now) (me_of self.now))) }
     {
         let mut sends = Items::new(self.alloc);
@@ -389,8 +430,12 @@ impl<T: Task> Node<T> {
     pub(super) fn tell(&mut self, body: Option<Body>) -> Result<Sends, MemFault>
         requires whole { IsWhole T.kind self.old }
         requires names { IfSome body (BodyNames (setup_of self.old)) }
-        ensures sends { IfOk result (λ sends. sends ≡ (effect_of_telling (setup_of self.old) (me_of self.old) (processor_of T.kind self.old) body).sends) }
-        ensures processor { OnOk result (processor_of T.kind self.new ≡ (effect_of_telling (setup_of self.old) (me_of self.old) (processor_of T.kind self.old) body).processor) }
+        ensures sends { IfOk result (λ sends. sends ≡
+            (effect_of_telling (setup_of self.old) (me_of self.old) (processor_of T.kind self.old)
+            body).sends) }
+        ensures processor { OnOk result (processor_of T.kind self.new ≡
+            (effect_of_telling (setup_of self.old) (me_of self.old) (processor_of T.kind self.old)
+            body).processor) }
         ensures whole { OnOk result (IsWhole T.kind self.new) }
         ensures within { IfOk result (All (IsSendOf (setup_of self.old) (me_of self.old))) }
         ensures same { IsSameNode self.old self.new }
@@ -412,7 +457,8 @@ impl<T: Task> Node<T> {
     fn take_in(&mut self, from: Proc, carry: &Carry)
         requires whole { IsWhole T.kind self.old }
         requires from { from.0 < (setup_of self.old).procs }
-        ensures processor { processor_of T.kind self.new ≡ with_carry (processor_of T.kind self.old) from.0 carry.now }
+        ensures processor { processor_of T.kind self.new ≡
+            with_carry (processor_of T.kind self.old) from.0 carry.now }
         ensures whole { IsWhole T.kind self.new }
         ensures same { IsSameNode self.old self.new }
     {
@@ -422,7 +468,14 @@ impl<T: Task> Node<T> {
 
     /// What the processor does, where its replay doesn't end and it owes no `Note`.
     pub(super) fn unit_effects(&self, carried: Pending, sends: Sends, outs: Pending) -> Effects
-        ensures { result ≡ record { carried = carried; sends = sends; replayed = false; rebuilt = []; outs = outs; note = None } }
+        ensures { result ≡ record {
+          carried = carried;
+          sends = sends;
+          replayed = false;
+          rebuilt = [];
+          outs = outs;
+          note = None;
+        } }
     {
         Effects {
             carried,
@@ -440,10 +493,15 @@ impl<T: Task> Node<T> {
         requires whole { IsWhole T.kind self.old }
         requires from { msg.from.0 < (setup_of self.old).procs }
         requires names { BodyNames (setup_of self.old) msg.body }
-        ensures effects { IfOk result (λ effects. effects ≡ effects_of (effect_of_message (setup_of self.old) (me_of self.old) (processor_of T.kind self.old) msg)) }
-        ensures processor { OnOk result (processor_of T.kind self.new ≡ (effect_of_message (setup_of self.old) (me_of self.old) (processor_of T.kind self.old) msg).processor) }
+        ensures effects { IfOk result (λ effects. effects ≡
+            effects_of (effect_of_message (setup_of self.old) (me_of self.old)
+            (processor_of T.kind self.old) msg)) }
+        ensures processor { OnOk result (processor_of T.kind self.new ≡
+            (effect_of_message (setup_of self.old) (me_of self.old) (processor_of T.kind self.old)
+            msg).processor) }
         ensures whole { OnOk result (IsWhole T.kind self.new) }
-        ensures within { IfOk result (λ effects. All (IsSendOf (setup_of self.old) (me_of self.old)) effects.sends) }
+        ensures within { IfOk result (λ effects. All (IsSendOf (setup_of self.old) (me_of self.old))
+            effects.sends) }
         ensures same { IsSameNode self.old self.new }
     {
         let Msg {

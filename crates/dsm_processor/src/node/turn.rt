@@ -74,7 +74,8 @@ impl<T: Task> Node<T> {
     /// A load of a cell, or a fault where it isn't allowed.
     fn load_label(&self, number: u32, cell: Cell, line: u32) -> Label
         requires shape { IsShaped self.now }
-        ensures { label_with (setup_of self.now) T.kind.semantics (me_of self.now) (own_of T.kind self.now) number (Want.Load cell line) ≡ Some result }
+        ensures { label_with (setup_of self.now) T.kind.semantics (me_of self.now)
+            (own_of T.kind self.now) number (Want.Load cell line) ≡ Some result }
     {
         let piece = self.table.piece_of(cell);
         let value = self.copy.load(cell);
@@ -84,7 +85,8 @@ impl<T: Task> Node<T> {
     /// A store to a cell, or a fault where it isn't allowed.
     fn store_label(&self, number: u32, cell: Cell, value: i64, line: u32) -> Label
         requires shape { IsShaped self.now }
-        ensures { label_with (setup_of self.now) T.kind.semantics (me_of self.now) (own_of T.kind self.now) number (Want.Store cell value line) ≡ Some result }
+        ensures { label_with (setup_of self.now) T.kind.semantics (me_of self.now)
+            (own_of T.kind self.now) number (Want.Store cell value line) ≡ Some result }
     {
         let piece = self.table.piece_of(cell);
         self.rights.store_label(self.me, piece, cell, value, line)
@@ -94,7 +96,9 @@ impl<T: Task> Node<T> {
     fn own_label(&self, number: u32, want: Want) -> Result<Option<Label>, MemFault>
         requires shape { IsShaped self.now }
         requires told { T.told self.now.task ≡ Some want }
-        ensures label { IfOk result (λ label. label ≡ label_with (setup_of self.now) T.kind.semantics (me_of self.now) (own_of T.kind self.now) number want) }
+        ensures label { IfOk result (λ label. label ≡
+            label_with (setup_of self.now) T.kind.semantics (me_of self.now)
+            (own_of T.kind self.now) number want) }
         ensures line { IfOk result (λ label. IfSome label PrintsLine) }
     {
         Ok(Some(match want {
@@ -121,7 +125,9 @@ impl<T: Task> Node<T> {
         requires shape { IsShaped self.now }
         requires told { T.told self.now.task ≡ Some want }
         requires turn { turn ≡ self.now.turns + 1 }
-        ensures label { IfOk result (λ label. label ≡ label_for (setup_of self.now) T.kind.semantics (me_of self.now) (own_of T.kind self.now) (number_for (processor_of T.kind self.now) want) want) }
+        ensures label { IfOk result (λ label. label ≡
+            label_for (setup_of self.now) T.kind.semantics (me_of self.now) (own_of T.kind self.now)
+            (number_for (processor_of T.kind self.now) want) want) }
         ensures line { IfOk result (λ label. IfSome label PrintsLine) }
     {
         match self.number_for(turn, want) {
@@ -135,7 +141,9 @@ impl<T: Task> Node<T> {
         requires shape { IsShaped self.old }
         requires turn { turn ≡ self.old.turns + 1 }
         ensures lines { result ≡ input_lines (input_for (processor_of T.kind self.old) want) }
-        ensures processor { processor_of T.kind self.new ≡ record (processor_of T.kind self.old) { mail = mail_after (processor_of T.kind self.old).mail turn } }
+        ensures processor { processor_of T.kind self.new ≡
+            record (processor_of T.kind self.old)
+            { mail = mail_after (processor_of T.kind self.old).mail turn } }
         ensures shape { IsShaped self.new }
         ensures same { IsSameNode self.old self.new }
         ensures task { self.new.task ≡ self.old.task }
@@ -151,7 +159,8 @@ impl<T: Task> Node<T> {
     fn release(&self, lock: Lock, mode: Mode, given: LineList) -> Result<Body, MemFault>
         requires shape { IsShaped self.now }
         requires lock { lock.0 < (setup_of self.now).locks }
-        ensures { IfOk result (λ body. release_with (versions_of self.now.versions) lock (Some mode) given ≡ Some body) }
+        ensures { IfOk result (λ body. release_with (versions_of self.now.versions) lock (Some mode)
+            given ≡ Some body) }
     {
         let version = self.versions.as_slice()[lock.index()];
         let (version, lines) = match mode {
@@ -170,7 +179,8 @@ impl<T: Task> Node<T> {
     fn body(&self, label: &Label, given: LineList) -> Result<Option<Body>, MemFault>
         requires shape { IsShaped self.now }
         requires names { LabelNames (setup_of self.now) label.now }
-        ensures { IfOk result (λ body. body ≡ body_with (versions_of self.now.versions) (held_of self.now.rights) label.now given) }
+        ensures { IfOk result (λ body. body ≡
+            body_with (versions_of self.now.versions) (held_of self.now.rights) label.now given) }
     {
         match label {
             Label::Ask(lock, mode) => Ok(Some(Body::Req {
@@ -192,7 +202,8 @@ impl<T: Task> Node<T> {
         requires turn { turn ≡ self.old.turns + 1 }
         requires names { LabelNames (setup_of self.old) label.now }
         requires answers { IsSomeAnd (T.told self.old.task) (λ want. AnswersTo want label.now) }
-        ensures processor { OnOk result (processor_of T.kind self.new ≡ advanced T.kind.semantics (processor_of T.kind self.old) label.now) }
+        ensures processor { OnOk result (processor_of T.kind self.new ≡
+            advanced T.kind.semantics (processor_of T.kind self.old) label.now) }
         ensures shape { OnOk result (IsShaped self.new) }
         ensures same { IsSameNode self.old self.new }
     {
@@ -215,8 +226,13 @@ impl<T: Task> Node<T> {
         requires turn { turn ≡ self.old.turns + 1 }
         requires names { LabelNames (setup_of self.old) label.now }
         requires answers { IsSomeAnd (T.told self.old.task) (λ want. AnswersTo want label.now) }
-        ensures body { IfOk result (λ body. body ≡ body_of (setup_of self.old) (own_of T.kind self.old) label.now) }
-        ensures processor { OnOk result (processor_of T.kind self.new ≡ record (processor_of T.kind self.old) { own = own_after (setup_of self.old) T.kind.semantics (own_of T.kind self.old) record { label = label.now; lines = lines.now } }) }
+        ensures body { IfOk result (λ body. body ≡
+            body_of (setup_of self.old) (own_of T.kind self.old) label.now) }
+        ensures processor { OnOk result (processor_of T.kind self.new ≡
+            record (processor_of T.kind self.old) {
+              own = own_after (setup_of self.old) T.kind.semantics (own_of T.kind self.old) record
+                  { label = label.now; lines = lines.now };
+            }) }
         ensures whole { OnOk result (IsWhole T.kind self.new) }
         ensures same { IsSameNode self.old self.new }
     {
@@ -230,8 +246,14 @@ impl<T: Task> Node<T> {
     /// version or a count doesn't fit its number; the processor is then of no more use.
     pub fn step(&mut self) -> Result<Option<Stepped>, MemFault>
         requires { IsWhole T.kind self.old }
-        ensures stepped { IfOk result (λ stepped. stepped ≡ stepped_by (setup_of self.old) T.kind.semantics (me_of self.old) (processor_of T.kind self.old) (own_turn (setup_of self.old) T.kind.semantics (me_of self.old) (processor_of T.kind self.old))) }
-        ensures processor { OnOk result (processor_of T.kind self.new ≡ processor_stepped (setup_of self.old) T.kind.semantics (me_of self.old) (processor_of T.kind self.old) (own_turn (setup_of self.old) T.kind.semantics (me_of self.old) (processor_of T.kind self.old))) }
+        ensures stepped { IfOk result (λ stepped. stepped ≡
+            stepped_by (setup_of self.old) T.kind.semantics (me_of self.old)
+            (processor_of T.kind self.old) (own_turn (setup_of self.old) T.kind.semantics
+            (me_of self.old) (processor_of T.kind self.old))) }
+        ensures processor { OnOk result (processor_of T.kind self.new ≡
+            processor_stepped (setup_of self.old) T.kind.semantics (me_of self.old)
+            (processor_of T.kind self.old) (own_turn (setup_of self.old) T.kind.semantics
+            (me_of self.old) (processor_of T.kind self.old))) }
         ensures whole { OnOk result (IsWhole T.kind self.new) }
         ensures within { IfOk result (λ stepped. IfSome stepped (λ one.
             All (IsSendOf (setup_of self.old) (me_of self.old)) one.effects.sends)) }
