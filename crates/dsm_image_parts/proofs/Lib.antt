@@ -1,0 +1,7 @@
+pub mod Holds
+pub mod Keyed
+pub mod Listing
+pub mod Writing
+pub mod Grammar
+pub mod Bodies
+pub mod Saved

@@ -1,0 +1,3 @@
+pub mod Keys
+pub mod Spelling
+pub mod Reading
