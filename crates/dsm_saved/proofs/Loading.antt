@@ -155,9 +155,10 @@ module _ (program : Program) (innermost : ℕ) where
       let split = split_of f front (subst Fit parts fit) in
       let waiting : (length front == innermost) ≡ false = ne_eqb (length front) innermost (λ e. omega (arith, e, length-reverse xs, le)) in
       let known = subst (λ (b : Bool). Known program b (due program (last_after None front)) f) waiting split.known in
-      let last : due program (Some f) ≡ Some callee = sym (ap (due program) (ap (last_after None) parts ∙ last_of_one front f None)) ∙ due_of in
-      (waits_of program callee (due program (last_after None front)) f valid known last,
-      outer_waits f.function xs valid (omega (arith, le)) split.before (due_is (due program (last_after None front)) f.function known.due))
+      let last : due program (Some f) ≡ Some callee = sym (ap (due program) (ap (last_after None) parts ∙ last_of_one front f None)) ∙ due_of in (
+        waits_of program callee (due program (last_after None front)) f valid known last,
+        outer_waits f.function xs valid (omega (arith, le)) split.before (due_is (due program (last_after None front)) f.function known.due),
+      )
 
 -- ---- a state that goes on
 

@@ -76,12 +76,13 @@ outer_kept program innermost callee (caller ∷ outer) waits le =
     let len : length front ≡ length outer = length-reverse (map saved_frame outer) ∙ length-map outer saved_frame in
     let waiting : (0 + length front == innermost) ≡ false = ne_eqb (0 + length front) innermost (λ e. omega (arith, e, len, le)) in
     let one : are_kept (fields (0 + length front) (last_after None front) f) ≡ true =
-    rw (waiting, before.1) (waits_kept program callee caller waits.0) in
-    (ap (λ (w : List SavedFrame). are_kept (numbered fields 0 None w)) parts
-    ∙ ap are_kept (numbered_append fields 0 None front (f ∷ []))
-    ∙ kept_append (numbered fields 0 None front) (numbered fields (0 + length front) (last_after None front) (f ∷ [])) before.0
-    (ap are_kept (append-nil (fields (0 + length front) (last_after None front) f)) ∙ one),
-    ap (λ (w : List SavedFrame). due program (last_after None w)) parts ∙ ap (due program) (last_of_one front f None) ∙ ap called_at waits.0.is)
+    rw (waiting, before.1) (waits_kept program callee caller waits.0) in (
+      ap (λ (w : List SavedFrame). are_kept (numbered fields 0 None w)) parts
+          ∙ ap are_kept (numbered_append fields 0 None front (f ∷ []))
+          ∙ kept_append (numbered fields 0 None front) (numbered fields (0 + length front) (last_after None front) (f ∷ [])) before.0
+          (ap are_kept (append-nil (fields (0 + length front) (last_after None front) f)) ∙ one),
+      ap (λ (w : List SavedFrame). due program (last_after None w)) parts ∙ ap (due program) (last_of_one front f None) ∙ ap called_at waits.0.is,
+    )
 
 frames_kept : (s : State) (going : IsGoing s) → Asks (act s going.inner.row.instr) → are_kept (frames_fields s.program 0 (frames_in s None)) ≡ true
 frames_kept s going asks =

@@ -1,0 +1,5 @@
+//! Threads of code that was written by hand, through their public calls.
+#![tactic(auto)]
+
+#[cfg(test)]
+mod threads;
