@@ -1,0 +1,11 @@
+pub mod Places
+pub mod Left
+pub mod Known
+pub mod Numbered
+pub mod Granted
+pub mod Names
+pub mod Whole
+pub mod Turns
+pub mod Plain
+pub mod Start
+pub mod Steps

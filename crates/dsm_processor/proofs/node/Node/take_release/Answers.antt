@@ -1,0 +1,27 @@
+use Rattle.std.proofs.lemmas.Result.{IfOk-weaker, on_ok_weaker}
+use Rattle.dsm_net.specs.Effects.{with_release}
+use Rattle.dsm_home.specs.Homes.{home_state, home_pieces}
+use Rattle.dsm_processor.specs.Peers.{peers_of}
+use Rattle.dsm_processor.specs.Node.{processor_of, setup_of, me_of}
+use Rattle.dsm_processor.proofs.Granted.{sends_are, processor_is, release_home, release_grants}
+use Rattle.dsm_processor.proofs.node.Node.take_release.Goals as goal
+
+pub returns-clause-sends : goal.returns-clause-sends
+returns-clause-sends g c =
+    let setup = setup_of c.args.self.now in
+    let s = processor_of g.T.Task.kind c.args.self.now in
+    IfOk-weaker c.send_grants.result _ _
+    (sends_are setup (me_of c.args.self.now) (with_release setup s c.args.from.0 c.args.turn c.args.lock c.args.mode c.args.version c.args.lines.now) _ c.args.lock _
+    (release_home s c.args.from.0 c.args.turn c.args.lock (home_state c.give.new.self) (peers_of c.set_last.new.self) c.set_last.ensures.peers setup (home_pieces c.args.self.now.home) c.args.mode c.args.version c.args.lines.now c.requires.shape.lines c.in_ok-granted.ensures.state)
+    (release_grants s c.args.from.0 c.args.turn c.args.lock (home_state c.give.new.self) (peers_of c.set_last.new.self) c.set_last.ensures.peers setup c.args.mode c.args.version c.args.lines.now c.in_ok-granted.granted c.in_ok-granted.ensures.granted))
+    c.send_grants.ensures.sends
+
+pub returns-clause-processor : goal.returns-clause-processor
+returns-clause-processor g c =
+    let setup = setup_of c.args.self.now in
+    let s = processor_of g.T.Task.kind c.args.self.now in
+    on_ok_weaker c.send_grants.result
+    (processor_is setup (me_of c.args.self.now) (with_release setup s c.args.from.0 c.args.turn c.args.lock c.args.mode c.args.version c.args.lines.now) _ c.args.lock _
+    (release_home s c.args.from.0 c.args.turn c.args.lock (home_state c.give.new.self) (peers_of c.set_last.new.self) c.set_last.ensures.peers setup (home_pieces c.args.self.now.home) c.args.mode c.args.version c.args.lines.now c.requires.shape.lines c.in_ok-granted.ensures.state)
+    (release_grants s c.args.from.0 c.args.turn c.args.lock (home_state c.give.new.self) (peers_of c.set_last.new.self) c.set_last.ensures.peers setup c.args.mode c.args.version c.args.lines.now c.in_ok-granted.granted c.in_ok-granted.ensures.granted) _)
+    c.send_grants.ensures.processor
