@@ -1,12 +1,12 @@
 -- What one more unit leaves of the world.
-use Rattle.std.proofs.Common.{◌≡◌, ◌+◌, ℕ, List, [], ◌∷◌, length, reverse, sym, ◌∙◌, arith}
+use Rattle.std.proofs.Common.{◌≡◌, ◌+◌, ℕ, List, ◌∷◌, reverse, sym, ◌∙◌, arith}
 use Rattle.dsm_base.specs.declared.act.Act.{Act}
 use Rattle.dsm_base.specs.Threads.{Kind}
 use Rattle.dsm_net.specs.declared.trace.Rec.{Rec}
 use Rattle.dsm_net.specs.declared.trace.Group.{Group}
 use Rattle.dsm_net.specs.Units.{Outcome, unit_of}
-use Rattle.dsm_net.specs.Fits.{Done, Ran, ran_after, run_of, with_unit}
-use Rattle.dsm_network.specs.World.{setup_of, first_of, groups_of, net_of, made_of, IsShaped, IsRunOf, IsWhole, IsSameWorld}
+use Rattle.dsm_net.specs.Fits.{Done, ran_after, run_of, with_unit}
+use Rattle.dsm_network.specs.World.{setup_of, groups_of, net_of, made_of, IsShaped, IsRunOf, IsWhole, IsSameWorld}
 use Rattle.dsm_network.specs.declared.world.World.{World}
 
 module _ {M T S : Type 0} (kind : Kind T S) (first : M → ℕ → ℕ → S) (old mid : World M T S) (act : Act) (outcome : Outcome) (records : List Rec) (trace : List Group) (units : ℕ)

@@ -1,5 +1,5 @@
 -- How the threads of the world came to be over.
-use Rattle.std.proofs.Common.{◌≡◌, ℕ, Bool, List, length, map, Option, Some, sym, ap, ◌∙◌}
+use Rattle.std.proofs.Common.{◌≡◌, ℕ, Bool, List, map, Option, sym, ap, ◌∙◌}
 use Rattle.std.specs.List.{list_all}
 use Rattle.std.proofs.lemmas.List.{length-map}
 use Rattle.std.proofs.lemmas.List.Folds.{list_all-map}

@@ -1,10 +1,9 @@
 -- The messages that processors send keep each range and order, so that they can be read from their bytes.
-use Rattle.std.proofs.Common.{◌≡◌, ◌+◌, ◌-◌, ◌*◌, ◌<◌, ◌≤◌, ◌==◌, ℕ, ℤ, zero, suc, Bool, true, false, ◌&&◌, not, if◌then◌else◌, List, [], ◌∷◌, ◌++◌, length, get_or, map, filter, Option, Some, None, refl, sym, ap, ◌∙◌, subst, inl, inr, arith}
+use Rattle.std.proofs.Common.{◌≡◌, ◌+◌, ◌-◌, ◌*◌, ◌<◌, ◌≤◌, ◌==◌, ℕ, ℤ, zero, suc, Bool, true, false, ◌&&◌, not, if◌then◌else◌, List, [], ◌∷◌, ◌++◌, length, map, filter, Option, Some, None, refl, sym, ap, ◌∙◌, subst, inl, inr, arith}
 use Rattle.std.specs.Prelude.{nat_lt, nat_le, min, IfSome}
-use Rattle.std.specs.List.{All, list_all, range_with_len}
+use Rattle.std.specs.List.{All, range_with_len}
 use Rattle.std.specs.Option.{option_map}
 use Rattle.std.proofs.lemmas.Bool.Decides.{leb_tells, nat_tests}
-use Rattle.std.proofs.lemmas.Grind.{common_steps}
 use Rattle.std.proofs.lemmas.List.{length-map}
 use Rattle.std.proofs.lemmas.List.Elements.{All-nil, All-cons, All-map, All-weaker, filter_passes}
 use Rattle.std.proofs.lemmas.List.FromFn.{length-range_with_len}
@@ -24,7 +23,6 @@ use Rattle.dsm_msg.specs.declared.message.Msg.{Msg}
 use Rattle.dsm_msg.specs.Fields.{Field, byte, is_over, entries}
 use Rattle.dsm_msg.proofs.Layers.{out_req, out_grant, out_release}
 use Rattle.dsm_msg.specs.Spelling.{Layer, layer_fields, are_kept, value_fields, line_fields, body_fields, carry_fields, kind_of, is_other, IsInOrder}
-use Rattle.dsm_home.specs.declared.waiting.Waiting.{Waiting}
 use Rattle.dsm_home.specs.LockStates.{grants_of}
 use Rattle.dsm_net.specs.Processor.{Own, Processor}
 use Rattle.dsm_net.specs.Messages.{keeper_of, message, with_carry}

@@ -1,21 +1,19 @@
 -- What a change of one processor leaves of the world.
-use Rattle.std.proofs.Common.{◌≡◌, ◌<◌, ◌≤◌, ℕ, Bool, true, List, [], ◌∷◌, length, get_or, set, map, Option, Some, None, Result, Ok, Err, refl, sym, ap, ◌∙◌, subst, inl, inr, arith}
+use Rattle.std.proofs.Common.{◌≡◌, ◌<◌, ◌≤◌, ℕ, Bool, true, length, get_or, set, map, Option, Some, None, Result, Ok, Err, refl, sym, ap, ◌∙◌, subst, inl, inr, arith}
 use Rattle.std.specs.Prelude.{◌&&◌, nat_le, IfOk, IfSome}
 use Rattle.std.specs.List.{All}
 use Rattle.std.specs.Vec.{with_item}
 use Rattle.std.proofs.lemmas.List.{map-set, get_or-set_same, get_or-set_other, get_or-map, length-map, length-set}
-use Rattle.std.proofs.lemmas.List.Elements.{All-nil}
 use Rattle.std.proofs.lemmas.Bool.Decides.{eqb_tells, nat_tests}
 use Rattle.std.proofs.lemmas.Grind.{common_steps}
 use Rattle.dsm_base.specs.declared.errors.MemFault.{MemFault}
 use Rattle.dsm_base.specs.declared.setup.Setup.{Setup}
-use Rattle.dsm_base.specs.Family.{family_of, update}
+use Rattle.dsm_base.specs.Family.{family_of}
 use Rattle.dsm_base.specs.Threads.{Kind}
-use Rattle.dsm_base.proofs.Families.{family_of_set, update_under, update_same}
+use Rattle.dsm_base.proofs.Families.{family_of_set, update_under}
 use Rattle.dsm_msg.specs.declared.message.Msg.{Msg}
 use Rattle.dsm_net.specs.Processor.{Processor, start_processor}
 use Rattle.dsm_net.specs.Turns.{OwnTurn, own_turn}
-use Rattle.dsm_net.specs.Net.{Net}
 use Rattle.dsm_net.specs.Effects.{effect_of_message, effect_of_turn}
 use Rattle.dsm_processor.specs.Names.{IsSendOf}
 use Rattle.dsm_processor.specs.Node as nodes
@@ -24,7 +22,7 @@ use Rattle.dsm_processor.specs.declared.node.Node.{Node}
 use Rattle.dsm_processor.specs.declared.node.Effects.{Effects}
 use Rattle.dsm_processor.specs.declared.node.Stepped.{Stepped}
 use Rattle.dsm_network.specs.Nodes.{IsNodeOf}
-use Rattle.dsm_network.specs.World.{setup_of, first_of, processor_at, net_of, turn_of, with_node, IsSendable, IsShaped}
+use Rattle.dsm_network.specs.World.{setup_of, first_of, processor_at, net_of, turn_of, with_node, IsShaped}
 use Rattle.dsm_network.specs.Effects.{AreSendable}
 use Rattle.dsm_network.specs.declared.world.World.{World}
 use Rattle.dsm_network.proofs.Orders.{fit_message, fit_turn, fit_sends}

@@ -1,5 +1,5 @@
 -- Messages and lines that go out one by one.
-use Rattle.std.proofs.Common.{◌≡◌, ℕ, List, [], ◌∷◌, ◌++◌, Some, ap, ◌∙◌}
+use Rattle.std.proofs.Common.{◌≡◌, ℕ, List, [], ◌∷◌, Some, ◌∙◌}
 use Rattle.std.specs.List.{remove, slice_get}
 use Rattle.dsm_base.specs.Threads.{Kind}
 use Rattle.dsm_processor.specs.Node.{processor_of}

@@ -1,5 +1,5 @@
 -- The world before its first unit.
-use Rattle.std.proofs.Common.{◌≡◌, ◌<◌, ◌+◌, ℕ, List, [], ◌∷◌, ◌++◌, length, map, replicate, reverse, All, Some, None, refl, sym, ap, ◌∙◌, subst, arith, inl, inr, length-append}
+use Rattle.std.proofs.Common.{◌≡◌, ◌+◌, ℕ, List, [], ◌∷◌, ◌++◌, length, map, replicate, reverse, All, Some, None, sym, ap, ◌∙◌, subst, arith, inl, inr, length-append}
 use Rattle.std.proofs.lemmas.List.{map_push, length-map, length-replicate, get_or_append_left, get_or_push}
 use Rattle.std.proofs.lemmas.List.Elements.{All-nil}
 use Rattle.std.proofs.lemmas.Bool.{cases_lt}
@@ -13,7 +13,7 @@ use Rattle.dsm_processor.specs.Node.{processor_of}
 use Rattle.dsm_processor.specs.declared.node.Node.{Node}
 use Rattle.dsm_channels.specs.Channels.{under_way, proc_count}
 use Rattle.dsm_network.specs.Nodes.{IsNodeOf, AreStartNodes}
-use Rattle.dsm_network.specs.World.{setup_of, first_of, IsReceivable, IsShaped, IsRunOf, IsWhole}
+use Rattle.dsm_network.specs.World.{setup_of, first_of, IsReceivable, IsRunOf, IsWhole}
 use Rattle.dsm_network.specs.declared.world.World.{World}
 
 -- one more processor

@@ -1,6 +1,5 @@
 -- What a step and a delivery make.
-use Rattle.std.proofs.Common.{◌≡◌, ℕ, ◌+◌, List, [], ◌∷◌, Option, Some, None, refl, sym, ap, ◌∙◌}
-use Rattle.std.proofs.Math.Path.{fun_ext}
+use Rattle.std.proofs.Common.{◌≡◌, ℕ, ◌+◌, List, [], ◌∷◌, Option, Some, None, sym, ap, ◌∙◌}
 use Rattle.dsm_base.specs.declared.setup.Setup.{Setup}
 use Rattle.dsm_base.specs.Family.{update}
 use Rattle.dsm_base.specs.Threads.{Semantics}

@@ -2,7 +2,7 @@ use Rattle.std.proofs.Common.{◌≡◌, ◌+◌, ap, ◌∙◌, reverse, rules}
 use Rattle.dsm_net.specs.Fits.{with_unit}
 use Rattle.dsm_net.specs.Units.{Made, went}
 use Rattle.dsm_records.specs.Outputs.{lines_of}
-use Rattle.dsm_network.specs.World.{units_of, groups_of}
+use Rattle.dsm_network.specs.World.{units_of}
 use Rattle.dsm_network.proofs.Applied.{run_after, whole_after}
 use Rattle.dsm_network.proofs.world.World.apply.Goals as goal
 

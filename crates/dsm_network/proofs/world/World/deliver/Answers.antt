@@ -1,4 +1,4 @@
-use Rattle.std.proofs.Common.{Some, ◌≡◌, ◌∙◌, ◌++◌, ◌∷◌, [], ap, sym, refl}
+use Rattle.std.proofs.Common.{Some, ◌≡◌, ◌∙◌, ◌++◌, ◌∷◌, [], ap, refl}
 use Rattle.dsm_net.specs.declared.trace.Rec.{Rec}
 use Rattle.dsm_net.specs.Units.{delivery_of}
 use Rattle.dsm_network.specs.World.{setup_of, processor_at, net_of, made_of}
