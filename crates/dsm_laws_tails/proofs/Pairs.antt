@@ -10,21 +10,38 @@ use Rattle.dsm_base.specs.declared.names.Fault.{Fault}
 use Rattle.dsm_base.specs.declared.label.Label.{Label}
 use Rattle.dsm_base.specs.declared.label.Want.{Want}
 use Rattle.dsm_base.specs.declared.setup.Object.{Object}
+use Rattle.dsm_base.specs.declared.setup.Piece.{Piece}
 use Rattle.dsm_base.specs.declared.setup.Setup.{Setup}
 use Rattle.dsm_base.specs.Plain.{Turn, after_run, plain_turn}
 use Rattle.dsm_laws_runs.specs.Swap.{rests_on, clashes, IsFree}
 use Rattle.dsm_laws_tails.specs.Fronts.{turns_by}
 use Rattle.dsm_laws_tails.proofs.Worked.{threads, in_even_epochs, of_two, by, IsMade, all_ask}
 
--- two locks, two barriers and two cells, each bound to the lock of its number
+abbrev lock : ℕ → Lock
+lock n = record { 0 = n }
+
+abbrev bar : ℕ → Bar
+bar n = record { 0 = n }
+
+abbrev cell : ℕ → Cell
+cell n = record { 0 = n }
+
+abbrev lock_piece : ℕ → Piece
+lock_piece n = record { object = Object.Lock (lock n); first = cell n; count = 1; owner = 0; phase = 0; period = 0 }
+
+-- a cell of barrier 0, its owner's in the epochs of a phase
+abbrev bar_piece : ℕ → ℕ → ℕ → ℕ → Piece
+bar_piece n owner phase period = record { object = Object.Bar (bar 0); first = cell n; count = 1; owner = owner; phase = phase; period = period }
+
+-- two locks, two barriers and five cells: 0 and 1 are each bound to the lock of its number, the others to barrier 0: of these 2 is
+-- processor 0's in even epochs, 3 is processor 0's in odd ones, and 4 is processor 1's in all
 abbrev setup : Setup
 setup = record {
   procs = 2;
   locks = 2;
   bars = 2;
-  cells = 2;
-  bindings = record { object = Object.Lock record { 0 = 0 }; first = record { 0 = 0 }; count = 1; owner = 0; phase = 0; period = 0 }
-      ∷ record { object = Object.Lock record { 0 = 1 }; first = record { 0 = 1 }; count = 1; owner = 0; phase = 0; period = 0 } ∷ [];
+  cells = 5;
+  bindings = lock_piece 0 ∷ lock_piece 1 ∷ bar_piece 2 0 0 2 ∷ bar_piece 3 0 1 2 ∷ bar_piece 4 1 0 1 ∷ [];
   kept = refl;
 }
 
@@ -40,15 +57,6 @@ IsBound first before earlier later =
     × (rests_on ((after_run first threads before).held earlier.proc) ((after_run first threads before).arrived earlier.proc) earlier.label later.label ≡ true)
     × IsMade setup first (later ∷ earlier ∷ before)
     × (plain_turn setup threads (after_run first threads before) later.proc ≡ None)
-
-abbrev lock : ℕ → Lock
-lock n = record { 0 = n }
-
-abbrev bar : ℕ → Bar
-bar n = record { 0 = n }
-
-abbrev cell : ℕ → Cell
-cell n = record { 0 = n }
 
 -- a thread's turn, and what it wants and makes up to there; the newest label first
 record Deed : Type 0 where
@@ -121,6 +129,14 @@ FreeCross other = MayChange (of_two meeting (meeting ++ other.wants)) (turns_by 
 
 abbrev CrossFree : Deed → Type 0
 CrossFree one = MayChange (of_two (meeting ++ one.wants) meeting) (turns_by 0 one.made ++ (by 0 (Label.Cross (bar 0) 1) ∷ both_came)) (by 0 one.label) (by 1 (Label.Cross (bar 0) 1))
+
+-- Cells of barrier 0: a thread loads one, or stores to one of its own.
+
+abbrev bar_loads : ℕ → Deed
+bar_loads n = alone (Want.Load (cell n) 1) (Label.Load (cell n) (pos 0))
+
+abbrev bar_stores : ℕ → Deed
+bar_stores n = alone (Want.Store (cell n) (pos 5) 1) (Label.Store (cell n) (pos 5))
 
 -- What touches nothing beside any other, as the earlier and as the later turn.
 
@@ -257,6 +273,72 @@ store_cross = (refl, refl, refl, refl)
 
 cross_store : FreeCross (stores 0)
 cross_store = (refl, refl, refl, refl)
+
+-- Loads and stores of barrier 0's cells beside any other.
+
+bar_load_load : Free (bar_loads 3) (bar_loads 3)
+bar_load_load = (refl, refl, refl, refl)
+
+bar_load_load_of_other : Free (bar_loads 2) (bar_loads 3)
+bar_load_load_of_other = (refl, refl, refl, refl)
+
+bar_load_store_of_other : Free (bar_loads 2) (bar_stores 4)
+bar_load_store_of_other = (refl, refl, refl, refl)
+
+bar_store_load_of_other : Free (bar_stores 2) (bar_loads 3)
+bar_store_load_of_other = (refl, refl, refl, refl)
+
+bar_store_store_of_other : Free (bar_stores 2) (bar_stores 4)
+bar_store_store_of_other = (refl, refl, refl, refl)
+
+bar_store_lock_store : Free (bar_stores 2) (stores 1)
+bar_store_lock_store = (refl, refl, refl, refl)
+
+lock_store_bar_store : Free (stores 0) (bar_stores 4)
+lock_store_bar_store = (refl, refl, refl, refl)
+
+bar_store_take : Free (bar_stores 2) (takes Mode.Excl 0)
+bar_store_take = (refl, refl, refl, refl)
+
+take_bar_store : Free (takes Mode.Excl 0) (bar_stores 4)
+take_bar_store = (refl, refl, refl, refl)
+
+bar_store_give : Free (bar_stores 2) (gives Mode.Excl 0)
+bar_store_give = (refl, refl, refl, refl)
+
+give_bar_store : Free (gives Mode.Excl 0) (bar_stores 4)
+give_bar_store = (refl, refl, refl, refl)
+
+bar_load_arrive : Free (bar_loads 2) (arrives 0)
+bar_load_arrive = (refl, refl, refl, refl)
+
+arrive_bar_load : Free (arrives 0) (bar_loads 3)
+arrive_bar_load = (refl, refl, refl, refl)
+
+bar_store_arrive : Free (bar_stores 2) (arrives 0)
+bar_store_arrive = (refl, refl, refl, refl)
+
+arrive_bar_store : Free (arrives 0) (bar_stores 4)
+arrive_bar_store = (refl, refl, refl, refl)
+
+-- in the epoch that the crossing leads to
+bar_load_cross : CrossFree (bar_loads 2)
+bar_load_cross = (refl, refl, refl, refl)
+
+cross_bar_load : FreeCross (bar_loads 2)
+cross_bar_load = (refl, refl, refl, refl)
+
+bar_store_cross : CrossFree (bar_stores 3)
+bar_store_cross = (refl, refl, refl, refl)
+
+cross_bar_store : FreeCross (bar_stores 4)
+cross_bar_store = (refl, refl, refl, refl)
+
+-- 0 has stored to its cell before it came, and 1 loads that
+cross_load_of_stored :
+    MayChange (of_two (Want.Store (cell 2) (pos 5) 1 ∷ meeting) (meeting ++ (Want.Load (cell 2) 1 ∷ []))) (by 1 (Label.Cross (bar 0) 1) ∷ (both_came ++ (by 0 (Label.Store (cell 2) (pos 5)) ∷ [])))
+    (by 0 (Label.Cross (bar 0) 1)) (by 1 (Label.Load (cell 2) (pos 5)))
+cross_load_of_stored = (refl, refl, refl, refl)
 
 -- Takes and gives of one lock.
 

@@ -1,6 +1,6 @@
 -- Cases in which a law of runs would fail without one of its premises. Each computes the other premises, and what is
 -- otherwise than the law says.
-use Rattle.std.specs.Prelude.{◌≡◌, ◌≢◌, ℕ, ℤ, pos, true, false, ◌==◌, nat_le, if◌then◌else◌, List, [], ◌∷◌, Some}
+use Rattle.std.specs.Prelude.{◌≡◌, ◌≢◌, ℕ, ℤ, zero, suc, pos, true, false, ◌==◌, nat_le, if◌then◌else◌, List, [], ◌∷◌, Some}
 use Rattle.std.proofs.Common.{arith, refl, sym}
 use Rattle.dsm_base.specs.declared.names.Lock.{Lock}
 use Rattle.dsm_base.specs.declared.names.Bar.{Bar}
@@ -12,13 +12,14 @@ use Rattle.dsm_base.specs.declared.setup.Piece.{Piece}
 use Rattle.dsm_base.specs.declared.setup.Setup.{Setup}
 use Rattle.dsm_base.specs.Access.{may_load, piece_of, is_phase}
 use Rattle.dsm_base.specs.Agrees.{is_between}
+use Rattle.dsm_base.specs.Family.{update}
 use Rattle.dsm_base.specs.Threads.{Semantics, AsksFirst, state_after}
 use Rattle.dsm_base.specs.Plain.{PlainState, Turn, IsPlainRun, plain_after, after_run, labels_of, plain_turn, seen_by}
 use Rattle.dsm_laws_runs.specs.Barriers.{is_owned, stored_by, until_arrival}
 use Rattle.dsm_laws_runs.specs.Copies.{OwnTurn, HasCopies, AreAdequate, own_labels, newest_copy, memories_of}
 use Rattle.dsm_laws_runs.specs.Epochs.{wants_cross}
 use Rattle.dsm_laws_runs.specs.OwnPart.{arrived_of, crossed_of}
-use Rattle.dsm_laws_runs.specs.Pieces.{is_bar}
+use Rattle.dsm_laws_runs.specs.Pieces.{is_bar, is_of_lock}
 use Rattle.dsm_base.proofs.Families.{update_back}
 use Rattle.dsm_laws_runs.specs.Swap.{rests_on, clashes, IsFree}
 use Rattle.dsm_laws_runs.specs.Versions.{SameAt, memory_at}
@@ -320,13 +321,64 @@ one_isnt_zero e = cc e
 
 -- The law `own_copies`: one may load the cell, its copy has a zero there, and the memory has a 5.
 
-abbrev HasStale : Setup → (ℕ → List Want) → List Turn → ℕ → List OwnTurn → Type 0
-HasStale setup first run p turns =
-    (labels_of p run ≡ own_labels turns)
-    × (may_load setup.bindings p (seen_by (after_run first threads run) p).rights 0 ≡ true)
+abbrev IsStale : Setup → (ℕ → List Want) → List Turn → ℕ → List OwnTurn → Type 0
+IsStale setup first run p turns =
+    (may_load setup.bindings p (seen_by (after_run first threads run) p).rights 0 ≡ true)
     × (is_between setup.bindings (after_run first threads run) p 0 ≡ false)
     × (newest_copy turns 0 ≡ pos 0)
     × ((after_run first threads run).memory 0 ≡ pos 5)
+
+abbrev HasStale : Setup → (ℕ → List Want) → List Turn → ℕ → List OwnTurn → Type 0
+HasStale setup first run p turns = (labels_of p run ≡ own_labels turns) × IsStale setup first run p turns
+
+-- of a thread that doesn't ask first: it stores in an exclusive hold and takes the lock shared once more, which brings the zeros of version 0
+abbrev stores_and_takes_again : ℕ → List Want
+stores_and_takes_again = of_two (Want.Ask the_lock Mode.Excl 1 ∷ Want.Take the_lock Mode.Excl ∷ Want.Store the_cell (pos 5) 1 ∷ Want.Take the_lock Mode.Shared ∷ []) []
+
+abbrev taken_again : List Turn
+taken_again = by 0 (Label.Take the_lock Mode.Shared 0) ∷ stored_under_the_lock
+
+abbrev copies_taken_again : List OwnTurn
+copies_taken_again =
+    record { label = Label.Take the_lock Mode.Shared 0; copy = zeros } ∷ record { label = Label.Store the_cell (pos 5); copy = update zeros 0 (pos 5) }
+    ∷ record { label = Label.Take the_lock Mode.Excl 0; copy = zeros } ∷ record { label = Label.Ask the_lock Mode.Excl; copy = zeros } ∷ []
+
+-- the store has set no cell but the lock's
+no_other_cell : (cell : ℕ) → is_of_lock 0 (piece_of of_lock.bindings cell) ≡ false → pos 0 ≡ update zeros 0 (pos 5) cell
+no_other_cell zero isnt = absurd (cc isnt)
+no_other_cell (suc cell) isnt = grind arith
+
+stale_by_another_take :
+    IsMade of_lock stores_and_takes_again taken_again
+    × AreAdequate of_lock (memories_of of_lock stores_and_takes_again threads taken_again) 0 copies_taken_again
+    × HasStale of_lock stores_and_takes_again taken_again 0 copies_taken_again
+stale_by_another_take = (
+  refl,
+  ((((tt, λ cell. refl), record { inside = λ cell is. refl; outside = λ cell isnt. refl }), λ cell. refl), record { inside = λ cell is. refl; outside = no_other_cell }),
+  (refl, (refl, refl, refl, refl)),
+)
+
+-- of turns that are no run: the same turns, of threads that want nothing
+stale_in_no_run :
+    AllAsk of_lock nothing
+    × IsNoRun of_lock nothing taken_again
+    × AreAdequate of_lock (memories_of of_lock nothing threads taken_again) 0 copies_taken_again
+    × HasStale of_lock nothing taken_again 0 copies_taken_again
+stale_in_no_run = (
+  refl,
+  refl,
+  ((((tt, λ cell. refl), record { inside = λ cell is. refl; outside = λ cell isnt. refl }), λ cell. refl), record { inside = λ cell is. refl; outside = no_other_cell }),
+  (refl, (refl, refl, refl, refl)),
+)
+
+-- of labels that aren't the processor's in the run: 0 stores to its own cell, and no own turn tells it
+store_left_out : let first = of_two store_five [] in
+    AllAsk in_even_epochs first
+    × IsMade in_even_epochs first zero_stored
+    × AreAdequate in_even_epochs (memories_of in_even_epochs first threads zero_stored) 0 []
+    × (labels_of 0 zero_stored ≢ own_labels [])
+    × IsStale in_even_epochs first zero_stored 0 []
+store_left_out = (refl, refl, tt, others_are (labels_of 0 zero_stored) [] refl, (refl, refl, refl, refl))
 
 -- of a take that brings nothing
 abbrev stores_and_takes : ℕ → List Want
@@ -344,7 +396,7 @@ take_that_brings_nothing :
     AllAsk of_lock stores_and_takes
     × IsMade of_lock stores_and_takes taken_after_the_store
     × HasStale of_lock stores_and_takes taken_after_the_store 1 asked_and_took
-take_that_brings_nothing = (refl, refl, (refl, refl, refl, refl, refl))
+take_that_brings_nothing = (refl, refl, (refl, (refl, refl, refl, refl)))
 
 -- of a processor past the setup
 processor_past_the_setup :
@@ -352,7 +404,7 @@ processor_past_the_setup :
     × IsMade in_odd_epochs owner_stores stored_in_its_epoch
     × AreAdequate in_odd_epochs (memories_of in_odd_epochs owner_stores threads stored_in_its_epoch) 17 []
     × HasStale in_odd_epochs owner_stores stored_in_its_epoch 17 []
-processor_past_the_setup = (refl, refl, tt, (refl, refl, refl, refl, refl))
+processor_past_the_setup = (refl, refl, tt, (refl, (refl, refl, refl, refl)))
 
 -- The law `copies_go_on`: 0 and 1 each have a quiet turn.
 
