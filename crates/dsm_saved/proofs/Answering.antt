@@ -9,7 +9,6 @@ use Rattle.dsm_fields.specs.Reading.{Cut, Broken, Read}
 use Rattle.dsm_fields.proofs.Exact.{ok_is}
 use Rattle.dsm_code.specs.Programs.{Program}
 use Rattle.dsm_saved.specs.declared.saved.Saved.{Saved}
-use Rattle.dsm_saved.specs.Spelling.{saved_fields}
 use Rattle.dsm_saved.specs.Reading.{saved_at}
 use Rattle.dsm_saved.specs.Answers.{IsSaved, saved_bytes, Begins, IsBad, cut, broken, behind, Spells, IsAnswer, OrMemory, answer_of}
 use Rattle.dsm_saved.proofs.Grammar.{saved_exact}

@@ -1,11 +1,11 @@
 -- Each part of a saved thread has an exact reader.
-use Rattle.std.proofs.Common.{replicate, ◌≡◌, ◌∙◌, ℕ, zero, suc, ℤ, pos, ◌-◌, ◌≤◌, Bool, true, List, [], ◌∷◌, ◌++◌, length, Option, None, Some, refl, sym, ap, subst, arith}
+use Rattle.std.proofs.Common.{replicate, ◌≡◌, ℕ, zero, suc, ℤ, pos, ◌-◌, Bool, true, List, [], ◌∷◌, ◌++◌, length, Option, None, refl, ap, subst, arith}
 use Rattle.std.specs.Prelude.{◌==◌, nat_lt}
 use Rattle.std.proofs.lemmas.List.{length-replicate}
 use Rattle.dsm_code.specs.declared.parts.Row.{Row}
 use Rattle.dsm_code.specs.Programs.{Program, row_at}
 use Rattle.dsm_fields.specs.Fields.{Any, Field, byte, number, numbered}
-use Rattle.dsm_fields.specs.Reading.{Read, then_with, kept, byte_at, number_at, numbered_at}
+use Rattle.dsm_fields.specs.Reading.{byte_at, numbered_at}
 use Rattle.dsm_fields.proofs.Exact.{Exact, done}
 use Rattle.dsm_fields.proofs.Chain.{At, chain}
 use Rattle.dsm_fields.proofs.Formats.{Has, reworded}

@@ -1,29 +1,27 @@
 -- What was saved of this code is a state of it.
-use Rattle.std.proofs.Common.{◌≡◌, ◌∙◌, ℕ, zero, suc, ℤ, ◌+◌, ◌-◌, ◌<◌, ◌≤◌, ◌^◌, Bool, true, false, ◌&&◌, List, [], ◌∷◌, ◌++◌, length, map, take, drop, Option, Some, None, refl, sym, ap, subst, arith, true≢false}
-use Rattle.std.specs.Prelude.{◌==◌, ◌||◌, nat_lt, nat_le, reverse, is_none, not, slice_get}
+use Rattle.std.proofs.Common.{◌≡◌, ◌∙◌, ℕ, zero, suc, ℤ, ◌+◌, ◌-◌, ◌<◌, ◌≤◌, ◌^◌, Bool, true, false, ◌&&◌, List, [], ◌∷◌, ◌++◌, length, map, take, drop, Option, Some, None, refl, sym, ap, subst, arith}
+use Rattle.std.specs.Prelude.{◌==◌, nat_lt, nat_le, reverse, slice_get}
 use Rattle.std.proofs.lemmas.Bool.{eqb-true, ne_eqb, eq-eqb, leb-true, ltb-true, ltb-false}
 use Rattle.std.proofs.lemmas.Option.{same_Some, slice_get_past}
 use Rattle.std.proofs.lemmas.List.{append-nil, reverse-append, reverse-reverse, length-reverse, length-map, length-take, length-drop, take-append-drop}
-use Rattle.dsm_base.specs.declared.names.Fault.{Fault}
-use Rattle.dsm_base.specs.Steps.{Over, ended, stopped}
 use Rattle.dsm_fields.specs.Fields.{Field, is_fit, are_fit, byte, number, numbered}
 use Rattle.dsm_fields.proofs.Exact.{both_true}
 use Rattle.dsm_code.specs.declared.instruction.Instr.{Instr}
 use Rattle.dsm_code.specs.declared.parts.Row.{Row}
-use Rattle.dsm_code.specs.Programs.{Program, Function, numbered as function_numbered, function_at, row_at}
+use Rattle.dsm_code.specs.Programs.{Program, numbered as function_numbered, function_at, row_at}
 use Rattle.dsm_code.specs.Valid.{takes, is_valid}
-use Rattle.dsm_code.specs.Machine.{State, Frame, act, act_at, step_in, step}
-use Rattle.dsm_code.specs.Typed.{IsAt, Waits, AllWait, IsGoing, IsTyped}
+use Rattle.dsm_code.specs.Machine.{State, act, act_at, step}
+use Rattle.dsm_code.specs.Typed.{Waits, AllWait, IsGoing}
 use Rattle.dsm_code.proofs.Facts.{row_fine}
 use Rattle.dsm_saved.specs.declared.saved.SavedFrame.{SavedFrame}
 use Rattle.dsm_saved.specs.declared.saved.Saved.{Saved}
-use Rattle.dsm_saved.specs.Stops.{may_want, called, is_stand, is_place, kept_operands, value_count}
+use Rattle.dsm_saved.specs.Stops.{may_want, called, is_place, value_count}
 use Rattle.dsm_saved.specs.Spelling.{value_fields, called_at, due, is_due, known_fields, frame_fields, frames_fields, own_fields, is_fault, is_line, life_fields, saved_fields, HasFrames}
 use Rattle.dsm_saved.specs.Answers.{IsSaved}
-use Rattle.dsm_saved.specs.States.{way_of, fault_number, numbered_fault, fault_of, line_of, saved_frame, frames_in, saved_of, opened, bare, going_with, state_by, state_of, Asks, IsState}
+use Rattle.dsm_saved.specs.States.{fault_number, numbered_fault, saved_frame, saved_of, opened, going_with, state_by, state_of, Asks, IsState}
 use Rattle.dsm_saved.proofs.Writing.{last_after, numbered_append, last_of_one}
 use Rattle.dsm_saved.proofs.Deciding.{fit_append}
-use Rattle.dsm_saved.proofs.Standing.{len_of, asks_of}
+use Rattle.dsm_saved.proofs.Standing.{asks_of}
 
 -- ---- one function
 
@@ -322,3 +320,7 @@ pub saved_again : (program : Program) (saved : Saved) → IsSaved program saved 
 saved_again program saved is =
     let parts = parts_of program saved is.fit in
     again_by program saved saved.way is.shaped parts.way parts.fault parts.line
+
+-- as many private cells as the program has
+pub saved_cells : (program : Program) (saved : Saved) → IsSaved program saved → length saved.own ≡ program.private_cells
+saved_cells program saved is = (parts_of program saved is.fit).cells

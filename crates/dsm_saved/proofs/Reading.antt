@@ -2,7 +2,7 @@
 use Rattle.std.proofs.Common.{◌≡◌, ◌∙◌, ℕ, List, Option, Ok, sym, ap, subst}
 use Rattle.std.specs.Prelude.{◌==◌}
 use Rattle.dsm_fields.specs.declared.error.FieldErr.{FieldErr}
-use Rattle.dsm_fields.specs.Reading.{Read, Fails}
+use Rattle.dsm_fields.specs.Reading.{Fails}
 use Rattle.dsm_code.specs.Programs.{Program}
 use Rattle.dsm_saved.specs.declared.saved.SavedFrame.{SavedFrame}
 use Rattle.dsm_saved.specs.Spelling.{due}

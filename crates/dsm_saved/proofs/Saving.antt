@@ -1,23 +1,22 @@
 -- A state of the code is saved as one, and goes on from what was saved.
-use Rattle.std.proofs.Common.{◌≡◌, ◌∙◌, ℕ, suc, ℤ, ◌+◌, ◌-◌, ◌<◌, ◌≤◌, Bool, true, false, List, [], ◌∷◌, ◌++◌, length, map, take, drop, Option, Some, None, refl, sym, ap, subst, arith}
+use Rattle.std.proofs.Common.{◌≡◌, ◌∙◌, ℕ, ℤ, ◌+◌, ◌-◌, ◌≤◌, Bool, true, false, List, [], ◌∷◌, ◌++◌, length, map, take, drop, Option, Some, None, refl, sym, ap, subst, arith}
 use Rattle.std.specs.Prelude.{◌==◌, reverse}
 use Rattle.std.proofs.lemmas.Bool.{eq-eqb, ne_eqb, le-leb}
 use Rattle.std.proofs.lemmas.List.{append-nil, reverse-append, reverse-reverse, length-reverse, length-map, take_at, drop_at}
 use Rattle.dsm_base.specs.declared.names.Fault.{Fault}
 use Rattle.dsm_base.specs.Steps.{Over, ended, stopped}
-use Rattle.dsm_fields.specs.Fields.{Field, byte, number, numbered, are_kept}
+use Rattle.dsm_fields.specs.Fields.{Field, number, numbered, are_kept}
 use Rattle.dsm_code.specs.declared.instruction.Instr.{Instr}
 use Rattle.dsm_code.specs.declared.parts.Row.{Row}
 use Rattle.dsm_code.specs.Programs.{Program, function_at, row_at}
 use Rattle.dsm_code.specs.Valid.{takes}
-use Rattle.dsm_code.specs.Machine.{State, Frame, waiting, act, act_at, step_in, step}
-use Rattle.dsm_code.specs.Typed.{IsAt, Waits, AllWait, IsGoing, IsTypedIn, IsTyped}
+use Rattle.dsm_code.specs.Machine.{State, Frame, waiting, act, act_at, step_in}
+use Rattle.dsm_code.specs.Typed.{Waits, AllWait, IsGoing, IsTypedIn}
 use Rattle.dsm_code.proofs.Facts.{row_fine}
 use Rattle.dsm_saved.specs.declared.saved.SavedFrame.{SavedFrame}
-use Rattle.dsm_saved.specs.declared.saved.Saved.{Saved}
-use Rattle.dsm_saved.specs.Stops.{may_want, is_stand, is_place, value_count}
-use Rattle.dsm_saved.specs.Spelling.{value_fields, called_at, due, is_due, known_fields, frame_fields, frames_fields, own_fields, is_fault, is_line, life_fields, saved_fields, HasFrames, IsShaped}
-use Rattle.dsm_saved.specs.States.{way_of, fault_number, fault_of, line_of, saved_frame, frames_in, saved_of, numbered_fault, opened, bare, going_with, state_by, state_of, Asks, IsOverIn, IsState}
+use Rattle.dsm_saved.specs.Stops.{is_stand, is_place, value_count}
+use Rattle.dsm_saved.specs.Spelling.{value_fields, called_at, due, is_due, known_fields, frame_fields, frames_fields, own_fields, is_fault, saved_fields, HasFrames, IsShaped}
+use Rattle.dsm_saved.specs.States.{way_of, fault_number, fault_of, line_of, saved_frame, frames_in, saved_of, numbered_fault, opened, bare, going_with, state_of, Asks, IsOverIn, IsState}
 use Rattle.dsm_saved.proofs.Writing.{last_after, numbered_append, last_of_one}
 use Rattle.dsm_saved.proofs.Deciding.{kept_append, any_values, early_values}
 use Rattle.dsm_saved.proofs.Standing.{len_of, may_of, kept_of}

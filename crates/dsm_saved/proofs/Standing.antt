@@ -1,8 +1,7 @@
 -- What a thread wants at an instruction, by the value that decides.
-use Rattle.std.proofs.Common.{◌≡◌, ◌∙◌, ℕ, suc, ℤ, ◌+◌, ◌≤◌, Bool, true, false, List, [], ◌∷◌, ◌++◌, length, Option, Some, None, Result, Ok, Err, refl, sym, ap, subst, arith, append_assoc}
+use Rattle.std.proofs.Common.{◌≡◌, ◌∙◌, ℕ, ℤ, ◌+◌, ◌≤◌, Bool, true, false, List, [], ◌∷◌, ◌++◌, length, Option, Some, None, Ok, Err, refl, sym, ap, subst, arith, append_assoc}
 use Rattle.std.specs.Prelude.{reverse, is_none, is_err, nat_lt}
 use Rattle.std.proofs.lemmas.List.{reverse-append, length-append, length-reverse}
-use Rattle.dsm_base.specs.declared.names.Fault.{Fault}
 use Rattle.dsm_base.specs.Steps.{Move, goes}
 use Rattle.dsm_syntax.specs.declared.tree.UnaryOp.{UnaryOp}
 use Rattle.dsm_syntax.specs.declared.tree.BinaryOp.{BinaryOp}

@@ -1,5 +1,5 @@
 -- Reading saved threads from left to right: what the readers of the code give.
-use Rattle.std.specs.Prelude.{ℕ, zero, suc, ℤ, ◌==◌, nat_lt, Bool, List, [], ◌∷◌, Option, None, Ok}
+use Rattle.std.specs.Prelude.{ℕ, zero, suc, ℤ, ◌==◌, nat_lt, Bool, List, [], Option, None, Ok}
 use Rattle.dsm_code.specs.declared.parts.Row.{Row}
 use Rattle.dsm_code.specs.Programs.{Program, row_at}
 use Rattle.dsm_fields.specs.Reading.{Read, then_with, kept, byte_at, number_at, signed_at, numbered_at}

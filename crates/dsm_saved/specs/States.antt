@@ -5,7 +5,7 @@ use Rattle.dsm_base.specs.declared.errors.LoadErr.TheVariants as errors
 use Rattle.dsm_base.specs.declared.names.Fault.{Fault}
 use Rattle.dsm_base.specs.Steps.{Move, goes, asks, Over, ended, stopped}
 use Rattle.dsm_code.specs.Programs.{Program, function_at}
-use Rattle.dsm_code.specs.Machine.{State, Frame, waiting, over, step}
+use Rattle.dsm_code.specs.Machine.{State, Frame, waiting, step}
 use Rattle.dsm_code.specs.Typed.{IsTyped}
 use Rattle.dsm_saved.specs.declared.saved.SavedFrame.{SavedFrame}
 use Rattle.dsm_saved.specs.declared.saved.Saved.{Saved}

@@ -1,12 +1,12 @@
 -- At which instructions a thread can stand, and which value decides whether it stops there.
-use Rattle.std.specs.Prelude.{ℕ, ◌*◌, ◌+◌, ◌-◌, ◌==◌, nat_le, ℤ, pos, Bool, true, false, ◌&&◌, ◌||◌, not, Option, Some, None, is_none, is_err}
+use Rattle.std.specs.Prelude.{ℕ, ◌+◌, ◌-◌, ◌==◌, nat_le, ℤ, pos, Bool, true, false, ◌&&◌, ◌||◌, not, Option, Some, None, is_none, is_err}
 use Rattle.dsm_syntax.specs.declared.tree.UnaryOp.{UnaryOp}
 use Rattle.dsm_syntax.specs.declared.tree.BinaryOp.{BinaryOp}
 use Rattle.dsm_values.specs.Values.{unary_value, step_value, binary_value}
 use Rattle.dsm_code.specs.declared.instruction.Target.{Target}
 use Rattle.dsm_code.specs.declared.instruction.Instr.{Instr}
 use Rattle.dsm_code.specs.declared.parts.Row.{Row}
-use Rattle.dsm_code.specs.Instructions.{index_count, number_at}
+use Rattle.dsm_code.specs.Instructions.{number_at}
 use Rattle.dsm_code.specs.Programs.{Program, function_at}
 use Rattle.dsm_code.specs.Valid.{takes}
 

@@ -1,12 +1,11 @@
-use Rattle.std.proofs.Common.{◌≡◌, ◌∙◌, ◌+◌, ◌++◌, ◌∷◌, [], ℕ, Ok, None, Option, length, sym, ap, subst, arith}
-use Rattle.std.specs.Prelude.{◌==◌}
+use Rattle.std.proofs.Common.{◌≡◌, ◌∙◌, ◌+◌, ◌∷◌, [], ℕ, None, length, sym, ap, subst, arith}
 use Rattle.std.specs.Option.{option_copied}
 use Rattle.std.proofs.lemmas.List.{length-append}
 use Rattle.std.proofs.lemmas.Result.{err_from_is_err_and}
 use Rattle.dsm_fields.specs.Reading.{numbered_at, Fails}
 use Rattle.dsm_fields.proofs.Loops.{last_of, numbered_goes_on, numbered_fails, numbered_done}
 use Rattle.dsm_saved.specs.Spelling.{due}
-use Rattle.dsm_saved.specs.Reading.{known_at, frame_at}
+use Rattle.dsm_saved.specs.Reading.{frame_at}
 use Rattle.dsm_saved.proofs.Reading.{frame_said, frame_failed}
 use Rattle.dsm_saved.proofs.frames.counted.Goals as goal
 

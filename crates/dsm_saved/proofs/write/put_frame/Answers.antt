@@ -4,7 +4,7 @@ use Rattle.std.proofs.lemmas.Bool.{ltb-true}
 use Rattle.std.proofs.lemmas.List.{length-append}
 use Rattle.std.proofs.lemmas.Result.{on_ok_weaker}
 use Rattle.byteorder.specs.Endian.{big_bytes}
-use Rattle.dsm_fields.specs.Fields.{Field, number, numbered, Appends}
+use Rattle.dsm_fields.specs.Fields.{Field, number, Appends}
 use Rattle.dsm_fields.proofs.Writing.{field_first, fields_first}
 use Rattle.dsm_code.specs.Programs.{row_at}
 use Rattle.dsm_saved.specs.Stops.{is_place, value_count}

@@ -1,5 +1,5 @@
 use mir.Val.{SFits}
-use Rattle.std.proofs.Common.{rules, ◌≡◌, ◌+◌, ◌++◌, ◌∷◌, [], ℕ, ℤ, pos, w64, to_z, of_z, take, get_or, Option, subst}
+use Rattle.std.proofs.Common.{rules, ◌≡◌, ◌+◌, ◌++◌, ◌∷◌, [], ℤ, pos, w64, to_z, of_z, take, get_or, subst}
 use Rattle.std.proofs.lemmas.Int.{to_z-of_z}
 use Rattle.std.proofs.lemmas.List.{take_more}
 use Rattle.dsm_fields.specs.Fields.{Appends}
