@@ -63,6 +63,7 @@ impl<R: rt::Files + Drop> DirStore<R> {
         requires { IsSlot slot }
     {
         fs::create_dir_all(&self.host, self.folder.as_str())?;
+        self.sync_folder()?;
         let mut options = OpenOptions::new();
         options.write(true).create(true);
         let file = options.open(&self.host, self.path(slot))?;
@@ -88,10 +89,11 @@ impl<R: rt::Files + Drop> DirStore<R> {
         file.read_exact(into)
     }
 
+    /// The rename is the mark, and nothing can fail behind it; the folder is synced before another
+    /// slot changes.
     fn set_mark(&self, slot: u8, blocks: u32) -> io::Result<()> {
         let (aside, path) = (self.new_mark.as_str(), self.mark.as_str());
-        write_mark(&self.host, aside, path, slot, blocks)?;
-        self.sync_folder()
+        write_mark(&self.host, aside, path, slot, blocks)
     }
 
     fn clear_mark(&self) -> io::Result<()> {

@@ -1,6 +1,6 @@
 //! Counting the failures of a store that another one stands behind.
 
-ghost use Rattle.std.specs.Prelude.{◌≡◌, ◌≤◌};
+ghost use Rattle.std.specs.Prelude.{◌≡◌, ◌≤◌, OnOk};
 ghost use Rattle.dsm_base.specs.Causes.{HasCause, HasFailureCause, Rose};
 
 use dsm_base::{Failed, ReadErr};
@@ -17,6 +17,7 @@ pub fn raise(faults: &mut u64)
 pub fn counted<T>(faults: &mut u64, answer: Result<T, Failed>) -> Result<T, Failed>
     ensures answer { result ≡ answer }
     ensures cause { HasFailureCause faults.old faults.new result }
+    ensures fine { OnOk result (faults.new ≡ faults.old) }
 {
     if answer.is_err() {
         raise(faults);
@@ -28,6 +29,7 @@ pub fn counted<T>(faults: &mut u64, answer: Result<T, Failed>) -> Result<T, Fail
 pub fn counted_room(faults: &mut u64, answer: Result<(), ReadErr>) -> Result<(), ReadErr>
     ensures answer { result ≡ answer }
     ensures cause { HasCause faults.old faults.new result }
+    ensures fine { OnOk result (faults.new ≡ faults.old) }
 {
     if let Err(ReadErr::Failed) = answer {
         raise(faults);

@@ -62,6 +62,7 @@ impl<S: Store> Store for Fuse<S> {
         ensures cleared { Clears (S.store_holds self.old.inner) (S.store_holds self.new.inner) result }
         ensures room { S.store_room self.new.inner ≡ S.store_room self.old.inner }
         ensures cause { HasFailureCause self.old.faults self.new.faults result }
+        ensures fine { OnOk result (self.new.faults ≡ self.old.faults) }
         ensures burns { Burns self.old.left self.new.left self.old.inner self.new.inner
             (Fails result) (HasFailureCause
             (S.store_faults self.old.inner) (S.store_faults self.new.inner) result) }
@@ -81,6 +82,7 @@ impl<S: Store> Store for Fuse<S> {
         ensures room { MakesRoom slot blocks (S.store_room self.old.inner) (S.store_room self.new.inner)
             result }
         ensures cause { HasCause self.old.faults self.new.faults result }
+        ensures fine { OnOk result (self.new.faults ≡ self.old.faults) }
         ensures burns { Burns self.old.left self.new.left self.old.inner self.new.inner
             (result ≡ Err ReadErr.Failed) (HasCause
             (S.store_faults self.old.inner) (S.store_faults self.new.inner) result) }
@@ -101,6 +103,7 @@ impl<S: Store> Store for Fuse<S> {
             (S.store_holds self.new.inner) result }
         ensures room { S.store_room self.new.inner ≡ S.store_room self.old.inner }
         ensures cause { HasFailureCause self.old.faults self.new.faults result }
+        ensures fine { OnOk result (self.new.faults ≡ self.old.faults) }
         ensures burns { Burns self.old.left self.new.left self.old.inner self.new.inner
             (Fails result) (HasFailureCause
             (S.store_faults self.old.inner) (S.store_faults self.new.inner) result) }
@@ -118,6 +121,7 @@ impl<S: Store> Store for Fuse<S> {
             (S.store_holds self.new.inner) result }
         ensures room { S.store_room self.new.inner ≡ S.store_room self.old.inner }
         ensures cause { HasFailureCause self.old.faults self.new.faults result }
+        ensures fine { OnOk result (self.new.faults ≡ self.old.faults) }
         ensures burns { Burns self.old.left self.new.left self.old.inner self.new.inner
             (Fails result) (HasFailureCause
             (S.store_faults self.old.inner) (S.store_faults self.new.inner) result) }
@@ -135,6 +139,7 @@ impl<S: Store> Store for Fuse<S> {
         ensures same { S.store_holds self.new.inner ≡ S.store_holds self.old.inner }
         ensures room { S.store_room self.new.inner ≡ S.store_room self.old.inner }
         ensures cause { HasFailureCause self.old.faults self.new.faults result }
+        ensures fine { OnOk result (self.new.faults ≡ self.old.faults) }
         ensures burns { Burns self.old.left self.new.left self.old.inner self.new.inner
             (Fails result) (HasFailureCause
             (S.store_faults self.old.inner) (S.store_faults self.new.inner) result) }
@@ -155,6 +160,7 @@ impl<S: Store> Store for Fuse<S> {
         ensures same { S.store_holds self.new.inner ≡ S.store_holds self.old.inner }
         ensures room { S.store_room self.new.inner ≡ S.store_room self.old.inner }
         ensures cause { HasFailureCause self.old.faults self.new.faults result }
+        ensures fine { OnOk result (self.new.faults ≡ self.old.faults) }
         ensures burns { Burns self.old.left self.new.left self.old.inner self.new.inner
             (Fails result) (HasFailureCause
             (S.store_faults self.old.inner) (S.store_faults self.new.inner) result) }

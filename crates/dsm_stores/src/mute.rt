@@ -1,7 +1,11 @@
 //! Stores that tell nothing of what they hold.
 
-ghost use Rattle.std.specs.Prelude.{◌≡◌, ◌<◌, ◌+◌, ◌%◌, IsTrue, length, slice_index, slice_set};
-ghost use Rattle.dsm_base.specs.Store.{IsUnmarked};
+ghost use Rattle.std.specs.Prelude.{◌≡◌, ◌<◌, ◌+◌, ◌%◌, IfOk, IfSome, IsTrue, OnOk, length, slice_index, slice_set};
+ghost use Rattle.std.specs.Option.{option_map};
+ghost use Rattle.dsm_base.specs.Causes.{HasFailureCause};
+ghost use Rattle.dsm_base.specs.Store.{IsSlot, IsBlock, IsMark, IsMarkOrNone, IsUnmarked};
+ghost use Rattle.dsm_base.specs.Store.{Clears, Marks, TellsMark, with_block};
+ghost use Rattle.dsm_stores.specs.Mutes.{raised};
 
 use crate::count::{counted, counted_room, raise};
 use dsm_base::{Failed, ReadErr, Store};
@@ -36,6 +40,7 @@ impl<S: Store> MuteStore<S> {
     /// so it asks.
     fn is_free(&mut self, slot: u8) -> bool
         ensures unmarked { IsTrue result → IsUnmarked slot (S.store_holds self.new.inner) }
+        ensures holds { S.store_holds self.new.inner ≡ S.store_holds self.old.inner }
         ensures room { S.store_room self.new.inner ≡ S.store_room self.old.inner }
         ensures same { self.new ≡ record self.old { inner = self.new.inner } }
     {
@@ -64,7 +69,12 @@ impl<S: Store> Store for MuteStore<S> {
 
     ghost store_faults = { λ store. store.faults };
 
-    fn clear(&mut self) -> Result<(), Failed> {
+    fn clear(&mut self) -> Result<(), Failed>
+        ensures room { S.store_room self.new.inner ≡ S.store_room self.old.inner }
+        ensures cause { HasFailureCause self.old.faults self.new.faults result }
+        ensures passed { Clears (S.store_holds self.old.inner) (S.store_holds self.new.inner)
+            result }
+    {
         let answer = self.inner.clear();
         counted(&mut self.faults, answer)
     }
@@ -78,7 +88,15 @@ impl<S: Store> Store for MuteStore<S> {
         counted_room(&mut self.faults, answer)
     }
 
-    fn write(&mut self, slot: u8, block: u32, bytes: &[u8]) -> Result<(), Failed> {
+    fn write(&mut self, slot: u8, block: u32, bytes: &[u8]) -> Result<(), Failed>
+        requires slot { IsSlot slot }
+        requires room { block < S.store_room self.old.inner slot }
+        requires whole { IsBlock bytes.now }
+        ensures room { S.store_room self.new.inner ≡ S.store_room self.old.inner }
+        ensures cause { HasFailureCause self.old.faults self.new.faults result }
+        ensures passed { OnOk result (S.store_holds self.new.inner
+            ≡ option_map (with_block slot block bytes.now) (S.store_holds self.old.inner)) }
+    {
         if !self.is_free(slot) {
             raise(&mut self.faults);
             return Err(Failed);
@@ -87,17 +105,38 @@ impl<S: Store> Store for MuteStore<S> {
         counted(&mut self.faults, answer)
     }
 
-    fn mark(&mut self, slot: u8, blocks: u32) -> Result<(), Failed> {
+    fn mark(&mut self, slot: u8, blocks: u32) -> Result<(), Failed>
+        requires { IsMark (slot, blocks) }
+        ensures room { S.store_room self.new.inner ≡ S.store_room self.old.inner }
+        ensures cause { HasFailureCause self.old.faults self.new.faults result }
+        ensures passed { Marks (slot, blocks) (S.store_holds self.old.inner)
+            (S.store_holds self.new.inner) result }
+    {
         let answer = self.inner.mark(slot, blocks);
         counted(&mut self.faults, answer)
     }
 
-    fn marked(&mut self) -> Result<Option<(u8, u32)>, Failed> {
+    fn marked(&mut self) -> Result<Option<(u8, u32)>, Failed>
+        ensures range { IfOk result IsMarkOrNone }
+        ensures room { S.store_room self.new.inner ≡ S.store_room self.old.inner }
+        ensures cause { HasFailureCause self.old.faults self.new.faults result }
+        ensures kept { S.store_holds self.new.inner ≡ S.store_holds self.old.inner }
+        ensures given { IfOk result (TellsMark (S.store_holds self.old.inner)) }
+    {
         let answer = self.inner.marked();
         counted(&mut self.faults, answer)
     }
 
-    fn read(&mut self, slot: u8, block: u32, into: &mut [u8]) -> Result<(), Failed> {
+    fn read(&mut self, slot: u8, block: u32, into: &mut [u8]) -> Result<(), Failed>
+        requires slot { IsSlot slot }
+        requires whole { IsBlock into.old }
+        ensures whole { IsBlock into.new }
+        ensures room { S.store_room self.new.inner ≡ S.store_room self.old.inner }
+        ensures cause { HasFailureCause self.old.faults self.new.faults result }
+        ensures kept { S.store_holds self.new.inner ≡ S.store_holds self.old.inner }
+        ensures given { OnOk result (IfSome (S.store_holds self.old.inner)
+            (λ contents. into.new ≡ raised self.old.at block (contents.blocks slot block))) }
+    {
         let answer = self.inner.read(slot, block, into);
         if let Some(at) = self.at
             && at / BLOCK == block
