@@ -13,3 +13,4 @@ pub mod Printing
 pub mod Handled
 mod Example
 pub mod Grants
+pub mod Order

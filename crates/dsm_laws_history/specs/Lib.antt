@@ -3,3 +3,4 @@ pub mod OneMemory
 pub mod Output
 pub mod Desks
 pub mod Granted
+pub mod Order

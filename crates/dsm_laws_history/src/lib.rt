@@ -15,6 +15,7 @@ ghost use Rattle.dsm_laws_history.specs.Desks.{AllHaveHandled};
 ghost use Rattle.dsm_laws_history.specs.Granted.{AllTakesAreGranted};
 ghost use Rattle.dsm_laws_history.specs.NewerLines.{HasNewerLines};
 ghost use Rattle.dsm_laws_history.specs.OneMemory.{IsOneMemory};
+ghost use Rattle.dsm_laws_history.specs.Order.{AllWaitInOrder};
 ghost use Rattle.dsm_laws_history.specs.Output.{output_of};
 
 use dsm_base::{Task, TaskMaker};
@@ -57,6 +58,13 @@ pub fn desks<T: Task>()
         (fits : FitsUnits setup first T.kind.semantics acts trace) → AreWithin setup acts →
         AllHaveHandled setup (history trace)
         (run_of setup first T.kind.semantics fits.done).net }
+{}
+
+/// Whoever waits for a lock at its home waits in the order in which the requests came there.
+pub fn desks_in_order<T: Task>()
+    ensures { (setup : Setup) (first : ℕ → T.State) (acts : List Act) (trace : List Group) →
+        (fits : FitsUnits setup first T.kind.semantics acts trace) →
+        AllWaitInOrder setup trace (run_of setup first T.kind.semantics fits.done).net }
 {}
 
 /// A take brings exactly the lines of its lock that were stored to in the holds that made the versions
