@@ -2,7 +2,8 @@
 use Rattle.std.specs.Prelude.{ℕ, List, [], Ok, Err}
 use Rattle.dsm_msg.specs.declared.message.Msg.{Msg}
 use Rattle.dsm_msg.specs.declared.message.Body.TheVariants.{Note}
-use Rattle.dsm_msg.specs.Reading.{Read, message_at}
+use Rattle.dsm_fields.specs.Reading.{Read}
+use Rattle.dsm_msg.specs.Reading.{message_at}
 
 -- the message that was read; where none was, a note of nobody stands for it
 abbrev pub message_read : Read Msg → Msg
