@@ -20,9 +20,9 @@ use Rattle.dsm_lines.specs.Copies.{line_with, lines_where}
 use Rattle.dsm_lines.proofs.Cells.{width_most, is_below}
 use Rattle.dsm_msg.specs.declared.message.Body.{Body}
 use Rattle.dsm_msg.specs.declared.message.Msg.{Msg}
-use Rattle.dsm_msg.specs.Fields.{Field, byte, is_over, entries}
+use Rattle.dsm_fields.specs.Fields.{Field, byte, is_over, entries, are_kept}
 use Rattle.dsm_msg.proofs.Layers.{out_req, out_grant, out_release}
-use Rattle.dsm_msg.specs.Spelling.{Layer, layer_fields, are_kept, value_fields, line_fields, body_fields, carry_fields, kind_of, is_other, IsInOrder}
+use Rattle.dsm_msg.specs.Spelling.{Layer, layer_fields, value_fields, line_fields, body_fields, carry_fields, kind_of, is_other, IsInOrder}
 use Rattle.dsm_home.specs.LockStates.{grants_of}
 use Rattle.dsm_net.specs.Processor.{Own, Processor}
 use Rattle.dsm_net.specs.Messages.{keeper_of, message, with_carry}
