@@ -1,3 +1,5 @@
+pub mod Holds
+pub mod Grammar
 pub mod Fronts
 pub mod Writing
 pub mod Zeros
