@@ -1,7 +1,8 @@
 //! The program: its words, the files and the standard output of the machine that it runs on.
 #![tactic(auto)]
 
-use dsm_top::{HostFiles, StdSink, run_tool};
+use dsm_adapt::{HostFiles, StdSink};
+use dsm_top::run_tool;
 use std::process::ExitCode;
 use std::{env, io};
 

@@ -1,10 +1,10 @@
 //! The barriers that a processor manages.
 
-ghost use Rattle.std.specs.Prelude.{◌≡◌, ◌<◌, ◌≤◌, ℕ, true, [], map, length, if◌then◌else◌, OnOk, IfOk};
+ghost use Rattle.std.specs.Prelude.{◌≡◌, ◌==◌, ◌<◌, ◌≤◌, ℕ, true, [], map, length, if◌then◌else◌, OnOk, IfOk};
 ghost use Rattle.std.specs.List.{All};
 ghost use Rattle.dsm_base.specs.Family.{update, family_of};
 ghost use Rattle.dsm_lines.specs.LineLists.{are_lines};
-ghost use Rattle.dsm_barrier.specs.BarrierStates.{start_barrier, counts, arrived_in, with_arrival, opened_where_due, openings_due};
+ghost use Rattle.dsm_barrier.specs.BarrierStates.{start_barrier, arrivals_of, counts, arrived_in, with_arrival, opened_where_due, openings_due};
 ghost use Rattle.dsm_barrier.specs.Barriers.{barrier_of, IsBarrierOf, AreBarriersOf};
 
 use crate::arrived::Arrived;
@@ -70,6 +70,15 @@ impl Manager {
             last,
             barriers,
         })
+    }
+
+    /// Whether this is the epoch of a barrier that a processor ends next.
+    pub fn awaits(&self, from: Proc, bar: Bar, epoch: u32) -> bool
+        requires processor { from.0 < self.now.procs }
+        requires barrier { bar.0 < bar_count self.now }
+        ensures { result ≡ (epoch == arrivals_of (barriers_of self.now bar.0) from.0) }
+    {
+        self.barriers[bar.index()].awaits(from, epoch)
     }
 
     /// A processor has come in this turn to a barrier that is managed here, and ends this epoch of

@@ -17,7 +17,7 @@ use Rattle.dsm_fields.proofs.Exact.{both_true}
 use Rattle.dsm_fields.proofs.Atoms.{small_front}
 use Rattle.dsm_fields.proofs.Numbers.{back}
 use Rattle.dsm_image.specs.declared.image.Image.{Image}
-use Rattle.dsm_image.specs.declared.scope.Scope.{Scope}
+use Rattle.dsm_image_parts.specs.declared.scope.Scope.{Scope}
 use Rattle.dsm_image.specs.Frame.{magic, zero_count, size_in, front_of, kept_in, behind_in, zeros_behind, sealed, IsRoomy, IsSealed, IsFirstOther}
 use Rattle.dsm_image.specs.Spelling.{payload_fields, front_fields, size_of, spelling, IsImage}
 use Rattle.dsm_image.specs.Reading.{front_at}

@@ -1,5 +1,3 @@
-pub mod Holds
-pub mod Grammar
 pub mod Fronts
 pub mod Writing
 pub mod Zeros

@@ -5,17 +5,10 @@ use Rattle.byteorder.specs.Endian.{big_bytes}
 use Rattle.dsm_fields.specs.Fields.{Field, numbered, bytes_of, are_held, Appends}
 use Rattle.dsm_fields.proofs.Writing.{fit_fields}
 use Rattle.dsm_image.specs.declared.image.Image.{Image}
-use Rattle.dsm_image.specs.declared.scope.Scope.{Scope}
+use Rattle.dsm_image_parts.specs.declared.scope.Scope.{Scope}
 use Rattle.dsm_image.specs.Frame.{magic}
-use Rattle.dsm_image.specs.Spelling.{listed_with, payload_fields, front_fields, size_of, IsInOrder, IsImage}
-
--- a list with its count, under its other name
-pub of_listed : {A : Type 0} (passes : ℕ → Bool) (fields : ℕ → Option A → A → List Field) {was now : List A} {old new : List ℕ} → was ≡ now → Appends (listed_with passes fields was) old new → Appends (listed_with passes fields now) old new
-of_listed {A} passes fields {was} {now} {old} {new} same one = subst (λ (items : List A). Appends (listed_with passes fields items) old new) same one
-
--- a list without one
-pub of_numbered : {A : Type 0} (fields : ℕ → Option A → A → List Field) {was now : List A} {old new : List ℕ} → was ≡ now → Appends (numbered fields 0 None was) old new → Appends (numbered fields 0 None now) old new
-of_numbered {A} fields {was} {now} {old} {new} same one = subst (λ (items : List A). Appends (numbered fields 0 None items) old new) same one
+use Rattle.dsm_image.specs.Spelling.{payload_fields, front_fields, size_of, IsInOrder, IsImage}
+use Rattle.dsm_image_parts.specs.Spelling.{listed_with}
 
 -- all before the digest, as it is written
 pub front_is : (scope : Scope) (image : Image) (payload mark count front : List ℕ) (size : ℕ) → payload ≡ bytes_of (payload_fields scope image) → size ≡ length payload + 8

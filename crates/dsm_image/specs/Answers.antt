@@ -6,7 +6,7 @@ use Rattle.dsm_base.specs.declared.errors.LoadErr.TheVariants as errors
 use Rattle.dsm_fields.specs.Fields.{bytes_of, are_fit, IsCut, Breaks}
 use Rattle.dsm_fields.specs.Reading.{Cut, Broken, Read}
 use Rattle.dsm_image.specs.declared.image.Image.{Image}
-use Rattle.dsm_image.specs.declared.scope.Scope.{Scope}
+use Rattle.dsm_image_parts.specs.declared.scope.Scope.{Scope}
 use Rattle.dsm_image.specs.Frame.{size_in, front_of, kept_in, behind_in, zeros_behind, IsRoomy, IsSealed, IsFirstOther}
 use Rattle.dsm_image.specs.Spelling.{front_fields, spelling, IsShaped, IsImage}
 

@@ -4,18 +4,19 @@ ghost use Rattle.std.specs.Prelude.{◌≡◌, ◌⊎◌, ◌+◌, ◌++◌, len
 ghost use Rattle.dsm_base.specs.declared.errors.LoadErr.{LoadErr};
 ghost use Rattle.dsm_base.specs.declared.setup.Setup.{Setup};
 ghost use Rattle.dsm_image.specs.declared.image.Image.{Image};
-ghost use Rattle.dsm_image.specs.declared.scope.Scope.{Scope};
+ghost use Rattle.dsm_image_parts.specs.declared.scope.Scope.{Scope};
 ghost use Rattle.dsm_fields.specs.Reading.{Gives};
-ghost use Rattle.dsm_image.specs.Spelling.{scope_of, spelling, IsInOrder, IsImage};
+ghost use Rattle.dsm_image.specs.Spelling.{spelling, IsInOrder, IsImage};
+ghost use Rattle.dsm_image_parts.specs.Spelling.{scope_of};
 ghost use Rattle.dsm_image.specs.Reading.{front_at};
 ghost use Rattle.dsm_image.specs.Answers.{front_answer, IsAnswer, OneSpelling, OrMemory};
 
 use crate::frame::{first_other, opened, seal, zero_count};
 use crate::image::Image;
 use crate::payload::{payload, put_payload};
-use crate::scope::Scope;
 use dsm_base::{LoadErr, MemFault, Setup};
 use dsm_fields::{FieldErr, keeps, number, put_count, put_number};
+use dsm_image_parts::Scope;
 use std::alloc::Global;
 
 /// `DSM1`, by which an image begins.

@@ -1,33 +1,8 @@
 //! What an image holds.
 
-use dsm_base::{Mode, Pending, Proc, Records, Text, Turns};
+use dsm_base::{Pending, Proc, Records, Text, Turns};
+use dsm_image_parts::{HomeLocks, Logs, Outboxes, OwnBars, OwnLocks, Values};
 use dsm_lines::{ArrivalList, LineNumbers, MailGrants, MailOpenings, Versions};
-use sqlite_items::Items;
-
-/// Values of cells.
-pub type Values = Items<i64>;
-
-/// How a processor stands at one lock: the version that its copy holds, how it holds the lock, and how
-/// it has asked for it.
-#[derive(Clone, Copy, Debug, PartialEq, Eq)]
-pub struct OwnLock {
-    pub have: u32,
-    pub held: Option<Mode>,
-    pub asked: Option<Mode>,
-}
-
-/// One for each lock, in the order of the locks.
-pub type OwnLocks = Items<OwnLock>;
-
-/// How often a processor has arrived at one barrier, and crossed it.
-#[derive(Clone, Copy, Debug, PartialEq, Eq)]
-pub struct OwnBar {
-    pub arrivals: u32,
-    pub crossings: u32,
-}
-
-/// One for each barrier, in the order of the barriers.
-pub type OwnBars = Items<OwnBar>;
 
 /// A checkpoint image: what a processor goes on from after a crash.
 #[derive(Debug, Drop)]
@@ -49,6 +24,8 @@ pub struct Image {
     pub openings: MailOpenings,
     /// The greatest turn that it has seen of each processor.
     pub seen: Turns,
+    /// What each other processor is still to be told.
+    pub outbox: Outboxes,
     /// Up to which turn its records are known to be held.
     pub held: u32,
     pub records: Records,
@@ -57,6 +34,10 @@ pub struct Image {
     pub versions: Versions,
     /// The arrivals that it made.
     pub arrivals: ArrivalList,
+    /// The locks whose home it is.
+    pub homes: HomeLocks,
+    /// What it has logged, as a home and manager, for each other processor.
+    pub logs: Logs,
 }
 
 /// The first fields of an image.
@@ -77,12 +58,13 @@ pub(crate) struct Own {
     pub bars: OwnBars,
 }
 
-/// The mailbox, and the turns that were seen.
+/// The mailbox, the turns that were seen, and the outboxes.
 #[derive(Debug, Drop)]
 pub(crate) struct Mail {
     pub grants: MailGrants,
     pub openings: MailOpenings,
     pub seen: Turns,
+    pub outbox: Outboxes,
 }
 
 /// The records that aren't known to be held, and the lines that aren't safe.
@@ -98,4 +80,11 @@ pub(crate) struct Tail {
 pub(crate) struct Made {
     pub versions: Versions,
     pub arrivals: ArrivalList,
+}
+
+/// What a processor keeps as a home and manager.
+#[derive(Debug, Drop)]
+pub(crate) struct Served {
+    pub homes: HomeLocks,
+    pub logs: Logs,
 }

@@ -3,15 +3,17 @@
 ghost use Rattle.std.specs.Prelude.{◌≡◌, ◌++◌, OnOk};
 ghost use Rattle.dsm_fields.specs.Fields.{Appends};
 ghost use Rattle.dsm_fields.specs.Reading.{Gives};
-ghost use Rattle.dsm_image.specs.declared.scope.Scope.{Scope};
-ghost use Rattle.dsm_image.specs.Spelling.{head_of, own_of, mail_of, tail_of, made_of, head_fields, own_fields, mail_fields, tail_fields, made_fields, payload_fields};
-ghost use Rattle.dsm_image.specs.Reading.{head_at, own_at, mail_at, tail_at, made_at, payload_at};
+ghost use Rattle.dsm_image_parts.specs.declared.scope.Scope.{Scope};
+ghost use Rattle.dsm_image.specs.Spelling.{head_of, own_of, mail_of, tail_of, made_of, served_of, head_fields, own_fields, mail_fields, tail_fields, made_fields, served_fields, payload_fields};
+ghost use Rattle.dsm_image.specs.Reading.{head_at, own_at, mail_at, tail_at, made_at, served_at, payload_at};
 
-use crate::image::{Head, Image, Made, Mail, Own, OwnBar, OwnLock, Tail};
-use crate::part::{listed, listed_exactly, parts, put_listed, put_parts};
-use crate::scope::Scope;
-use dsm_base::{MemFault, PendingLine, Proc, Record};
+use crate::image::{Head, Image, Made, Mail, Own, Served, Tail};
+use dsm_base::{Lock, MemFault, PendingLine, Proc, Record};
 use dsm_fields::{FieldErr, byte, keeps, number, put_byte, put_count, put_number, text};
+use dsm_image_parts::{
+    Outbox, OwnBar, OwnLock, ProcLog, SavedLock, Scope, listed, listed_exactly, logs, outboxes,
+    parts, put_listed, put_parts, saved_locks,
+};
 use dsm_lines::{Arrival, MailGrant, MailOpening, Version};
 use sqlite_items::Items;
 use std::alloc::Global;
@@ -73,10 +75,12 @@ fn mail<'a>(
     let (grants, rest) = listed::<Proc, MailGrant>(alloc, scope, me, bytes)?;
     let (openings, rest) = listed::<Proc, MailOpening>(alloc, scope, me, rest)?;
     let (seen, rest) = parts::<Proc, u32>(alloc, scope, me, scope.procs as u32, rest)?;
+    let (outbox, rest) = outboxes(alloc, scope, me, rest)?;
     let mail = Mail {
         grants: Items::from_vec(grants),
         openings: Items::from_vec(openings),
         seen: Items::from_vec(seen),
+        outbox: Items::from_vec(outbox),
     };
     Ok((mail, rest))
 }
@@ -119,6 +123,24 @@ fn made<'a>(
     Ok((made, rest))
 }
 
+#[tactic(auto, unfolding(crate::specs::Reading::served_at))]
+fn served<'a>(
+    alloc: Global,
+    scope: &Scope,
+    me: Proc,
+    bytes: &'a [u8],
+) -> Result<(Served, &'a [u8]), FieldErr>
+    ensures { Gives (λ x. (x.0, x.1.now)) result (served_at scope.now me.0 bytes.now) }
+{
+    let (homes, rest) = saved_locks(alloc, scope, me, bytes)?;
+    let (logs, rest) = logs(alloc, scope, me, rest)?;
+    let served = Served {
+        homes: Items::from_vec(homes),
+        logs: Items::from_vec(logs),
+    };
+    Ok((served, rest))
+}
+
 /// The image that the bytes between the length and the digest spell, and the bytes behind it.
 #[tactic(auto, unfolding(crate::specs::Reading::payload_at))]
 pub(crate) fn payload<'a>(
@@ -134,6 +156,7 @@ pub(crate) fn payload<'a>(
     let (mail, rest) = mail(alloc, scope, me, rest)?;
     let (tail, rest) = tail(alloc, scope, me, rest)?;
     let (made, rest) = made(alloc, scope, me, rest)?;
+    let (served, rest) = served(alloc, scope, me, rest)?;
     let image = Image {
         me,
         procs: head.procs,
@@ -146,11 +169,14 @@ pub(crate) fn payload<'a>(
         grants: mail.grants,
         openings: mail.openings,
         seen: mail.seen,
+        outbox: mail.outbox,
         held: tail.held,
         records: tail.records,
         lines: tail.lines,
         versions: made.versions,
         arrivals: made.arrivals,
+        homes: served.homes,
+        logs: served.logs,
     };
     Ok((image, rest))
 }
@@ -183,7 +209,8 @@ fn put_mail(out: &mut Vec<u8>, image: &Image) -> Result<(), MemFault>
 {
     put_listed::<Proc, MailGrant>(out, image.grants.as_slice())?;
     put_listed::<Proc, MailOpening>(out, image.openings.as_slice())?;
-    put_parts::<Proc, u32>(out, image.seen.as_slice())
+    put_parts::<Proc, u32>(out, image.seen.as_slice())?;
+    put_parts::<Proc, Outbox>(out, image.outbox.as_slice())
 }
 
 fn put_tail(out: &mut Vec<u8>, image: &Image) -> Result<(), MemFault>
@@ -203,6 +230,14 @@ fn put_made(out: &mut Vec<u8>, image: &Image) -> Result<(), MemFault>
     put_listed::<Proc, Arrival>(out, image.arrivals.as_slice())
 }
 
+fn put_served(out: &mut Vec<u8>, image: &Image) -> Result<(), MemFault>
+    ensures { OnOk result ((scope : Scope) →
+        Appends (served_fields scope (served_of image.now)) out.old.items out.new.items) }
+{
+    put_parts::<Lock, SavedLock>(out, image.homes.as_slice())?;
+    put_parts::<Proc, ProcLog>(out, image.logs.as_slice())
+}
+
 /// Appends what stands between the length and the digest.
 pub(crate) fn put_payload(out: &mut Vec<u8>, image: &Image) -> Result<(), MemFault>
     ensures { OnOk result ((scope : Scope) →
@@ -212,5 +247,6 @@ pub(crate) fn put_payload(out: &mut Vec<u8>, image: &Image) -> Result<(), MemFau
     put_own(out, image)?;
     put_mail(out, image)?;
     put_tail(out, image)?;
-    put_made(out, image)
+    put_made(out, image)?;
+    put_served(out, image)
 }

@@ -22,6 +22,7 @@ use Rattle.dsm_laws_protocol.specs.Steps.{Step, steps_onto, steps_of, turns_of}
 use Rattle.dsm_laws_protocol.proofs.OwnParts.{own_parts, own_labels}
 use Rattle.dsm_laws_protocol.proofs.Reaching.{Holds}
 use Rattle.dsm_laws_history.specs.NewerLines.{IsTrue, HasNewerLines}
+use Rattle.dsm_laws_history.specs.BarrierLines.{HasBarrierLines}
 use Rattle.dsm_laws_history.specs.OneMemory.{IsOneMemory}
 use Rattle.dsm_laws_history.proofs.Truth.{IsTrueOf}
 use Rattle.dsm_laws_history.proofs.Reached.{HasCopy, HasHistory}
@@ -73,12 +74,23 @@ module _ {S : Type 0} (setup : Setup) (first : ℕ → S) (threads : Semantics S
   truth p s e = subst (λ r. IsTrueOf setup first threads r p s) (steps_are trace)
       (subst (IsTrueOf setup first threads run p) (same_some (holds.world.processors p) s (sym (holds.is_net.up p) ∙ e)) (holds.kept.truths p))
 
+  under_way_true : (p q : ℕ) → AllByRecursion (λ (letter : Letter). IsTrue setup first threads (history trace) p q letter.msg.carry.turn letter.msg.body) (net.channels p q)
+  under_way_true p q = subst (λ r. AllByRecursion (λ (letter : Letter). IsTrue setup first threads r p q letter.msg.carry.turn letter.msg.body) (net.channels p q)) (steps_are trace)
+      (all_mapped (λ (msg : Msg). IsTrue setup first threads run p q msg.carry.turn msg.body) (λ (letter : Letter). letter.msg) (net.channels p q)
+      (subst (AllByRecursion (λ (msg : Msg). IsTrue setup first threads run p q msg.carry.turn msg.body)) (sym (holds.is_net.under_way p q)) (holds.kept.under_way p q)))
+
+  pub barrier_lines : HasBarrierLines setup first threads net trace
+  barrier_lines = record {
+    turns = holds.kept.brings;
+    under_way = under_way_true;
+    mail = λ p s e. (truth p s e).openings;
+    managers = λ p bar s e. (truth p s e).barriers bar;
+  }
+
   pub newer_lines : HasNewerLines setup first threads net trace
   newer_lines = record {
     turns = holds.kept.brings;
-    under_way = λ p q. subst (λ r. AllByRecursion (λ (letter : Letter). IsTrue setup first threads r p q letter.msg.carry.turn letter.msg.body) (net.channels p q)) (steps_are trace)
-        (all_mapped (λ (msg : Msg). IsTrue setup first threads run p q msg.carry.turn msg.body) (λ (letter : Letter). letter.msg) (net.channels p q)
-        (subst (AllByRecursion (λ (msg : Msg). IsTrue setup first threads run p q msg.carry.turn msg.body)) (sym (holds.is_net.under_way p q)) (holds.kept.under_way p q)));
+    under_way = under_way_true;
     mail = λ p s e. (truth p s e).mail;
     homes = λ p lock s e. (truth p s e).homes lock;
   }

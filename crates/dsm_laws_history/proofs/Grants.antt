@@ -13,6 +13,7 @@ use Rattle.dsm_base.specs.Family.{update, update_at}
 use Rattle.dsm_base.specs.Threads.{Semantics}
 use Rattle.dsm_lines.specs.declared.list.Line.{Line}
 use Rattle.dsm_lines.specs.declared.of_objects.MailGrant.{MailGrant}
+use Rattle.dsm_lines.specs.declared.of_objects.Opening.{Opening}
 use Rattle.dsm_msg.specs.declared.message.Body.{Body}
 use Rattle.dsm_msg.specs.declared.message.Msg.{Msg}
 use Rattle.dsm_home.specs.declared.waiting.Waiting.{Waiting}
@@ -23,9 +24,10 @@ use Rattle.dsm_net.specs.declared.trace.Group.{Group}
 use Rattle.dsm_net.specs.Processor.{Own, Processor, start_processor}
 use Rattle.dsm_net.specs.Inputs.{Input, is_grant_for}
 use Rattle.dsm_net.specs.Turns.{OwnTurn, own_view, own_turn}
-use Rattle.dsm_net.specs.Messages.{home_of, with_carry}
+use Rattle.dsm_net.specs.Messages.{home_of, manager_of, with_carry}
 use Rattle.dsm_net.specs.Grants.{own_grant, grant_message, is_of}
-use Rattle.dsm_net.specs.Effects.{Effect, counts, with_request, with_release, effect_of, effect_of_body, effect_of_message, release_of, body_of, processor_after, effect_of_telling_to, effect_of_telling, effect_of_turn}
+use Rattle.dsm_net.specs.Openings.{opening_message, is_to, openings_now}
+use Rattle.dsm_net.specs.Effects.{Effect, counts, with_request, with_release, with_arrived, effect_of, effect_of_body, effect_of_message, release_of, body_of, processor_after, effect_of_telling_to, effect_of_telling, effect_of_turn}
 use Rattle.dsm_net.specs.Net.{Net}
 use Rattle.dsm_net.specs.Units.{Outcome, Made, with_letter, with_message, with_message_to, with_messages, with_lines_out, with_line_out, with_processor, with_effect, step_with, step_of, delivery_of, unit_of}
 use Rattle.dsm_net.specs.Fits.{Done, FitsUnits, with_unit, run_of}
@@ -120,6 +122,7 @@ abbrev IsOwnBody : Option Body → Type 0
 IsOwnBody None = Unit {0}
 IsOwnBody (Some (Body.Req lock mode own)) = Unit {0}
 IsOwnBody (Some (Body.Release lock mode version lines)) = Unit {0}
+IsOwnBody (Some (Body.Arrive bar epoch lines)) = Unit {0}
 IsOwnBody (Some _) = ⊥
 
 module _ {S : Type 0} (setup : Setup) (known : Rec → Type 0) (me : ℕ) where
@@ -130,6 +133,10 @@ module _ {S : Type 0} (setup : Setup) (known : Rec → Type 0) (me : ℕ) where
   sent_routed : (s : Processor S) (lock : Lock) (ones : List Waiting) → AllByRecursion (λ (msg : Msg). IsRouted setup msg.to.0 msg.body) (map (grant_message setup me s lock) ones)
   sent_routed s lock [] = tt
   sent_routed s lock (one ∷ ones) = (tt, sent_routed s lock ones)
+
+  opened_routed : (s : Processor S) (ones : List Opening) → AllByRecursion (λ (msg : Msg). IsRouted setup msg.to.0 msg.body) (map (opening_message me s) ones)
+  opened_routed s [] = tt
+  opened_routed s (one ∷ ones) = (tt, opened_routed s ones)
 
   module _ (s : Processor S) (mail : AllByRecursion (IsFrom setup known me) s.mail.grants) (from turn : ℕ) where
     counted_traced : (body : Body) → HasCome setup known me body → IsTraced setup known me (effect_of setup me s from turn body)
@@ -147,6 +154,9 @@ module _ {S : Type 0} (setup : Setup) (known : Rec → Type 0) (me : ℕ) where
         }
     counted_traced (Body.Grant lock mode take version lines) come =
         record { mail = all_append _ s.mail.grants (record { turn = take; lock = lock; mode = mode; version = version; lines = lines } ∷ []) mail (come, tt); sends = tt }
+    counted_traced (Body.Arrive bar epoch lines) come =
+        let arrived : Processor S = with_arrived s from turn bar lines in
+        record { mail = mail; sends = opened_routed arrived (filter (λ one. not (is_to me one)) (openings_now setup arrived bar)) }
     counted_traced _ come = record { mail = mail; sends = tt }
 
     body_traced : (body : Body) → HasCome setup known me body → IsTraced setup known me (effect_of_body setup me s from turn body)
@@ -167,6 +177,7 @@ module _ {S : Type 0} (setup : Setup) (known : Rec → Type 0) (me : ℕ) where
     told_traced None is = record { mail = mail; sends = tt }
     told_traced (Some (Body.Req lock mode own)) is = told_at (home_of setup lock.0) (Body.Req lock mode own) refl (λ e. e)
     told_traced (Some (Body.Release lock mode version lines)) is = told_at (home_of setup lock.0) (Body.Release lock mode version lines) refl (λ e. e)
+    told_traced (Some (Body.Arrive bar epoch lines)) is = told_at (manager_of setup bar.0) (Body.Arrive bar epoch lines) tt (λ e. tt)
     told_traced (Some _) is = absurd is
 
 -- Parts of a unit.
@@ -305,6 +316,7 @@ module _ {S : Type 0} (setup : Setup) (first : ℕ → S) (threads : Semantics S
         gives None = tt
         gives (Some Mode.Shared) = tt
         gives (Some Mode.Excl) = tt
+    own_body own (Label.Arrive bar) = tt
     own_body own _ = tt
 
     module _ (p : ℕ) (s : Processor S) (e : net.processors p ≡ Some s) (turn : OwnTurn) (own : IsOwnTurn setup threads p s turn) where

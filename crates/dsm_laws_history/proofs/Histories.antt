@@ -9,6 +9,7 @@ use Rattle.dsm_base.specs.Family.{update, update_at}
 use Rattle.dsm_base.specs.Threads.{Semantics}
 use Rattle.dsm_base.specs.Plain.{Turn, IsPlainTurn, after_run, labels_of}
 use Rattle.dsm_lines.specs.declared.of_objects.MailGrant.{MailGrant}
+use Rattle.dsm_lines.specs.declared.of_objects.MailOpening.{MailOpening}
 use Rattle.dsm_msg.specs.declared.message.Msg.{Msg}
 use Rattle.dsm_net.specs.declared.trace.Group.{Group}
 use Rattle.dsm_net.specs.Processor.{Own, Processor}
@@ -76,7 +77,8 @@ module _ {S : Type 0} (setup : Setup) (first : ℕ → S) (threads : Semantics S
         mail = tt;
         waits = λ lock. tt;
         homes = λ lock. record { is_made = omega arith; values = λ cell is. refl; stamps = λ cell is. refl };
-        no_openings = refl;
+        openings = tt;
+        barriers = λ bar. record { no_early = λ q lt. omega arith; waiting = λ q. tt };
       };
       under_way = λ p q. tt;
       brings = tt;
@@ -115,12 +117,13 @@ module _ {S : Type 0} (setup : Setup) (first : ℕ → S) (threads : Semantics S
 
         moved_true : IsTrueOf setup first threads now p moved
         moved_true =
-            let grown : IsTrueOf setup first threads now p s = truth_grows setup first threads record { proc = p; label = turn.label } run p s (is.truths p) in
+            let grown : IsTrueOf setup first threads now p s = truth_grows setup first threads record { proc = p; label = turn.label } run ask_first (is.is_run, plain) p s (is.truths p) in
             record {
               mail = all_filter _ (λ (grant : MailGrant). nat_lt (s.own.turns + 1) grant.turn) s.mail.grants grown.mail;
               waits = grown.waits;
               homes = grown.homes;
-              no_openings = ap (filter _) grown.no_openings;
+              openings = all_filter _ (λ (opening : MailOpening). nat_lt (s.own.turns + 1) opening.turn) s.mail.openings grown.openings;
+              barriers = grown.barriers;
             }
 
         told : IsTrueEffect setup first threads now p (effect_of_telling setup p moved (body_of setup s.own turn.label))
@@ -160,9 +163,9 @@ module _ {S : Type 0} (setup : Setup) (first : ℕ → S) (threads : Semantics S
           is_run = (is.is_run, plain);
           owns = owns_now;
           copies = copies_now;
-          truths = each_now (λ q x. IsTrueOf setup first threads now q x) told.processor (λ q ne. truth_grows setup first threads record { proc = p; label = turn.label } run q (w.processors q) (is.truths q));
+          truths = each_now (λ q x. IsTrueOf setup first threads now q x) told.processor (λ q ne. truth_grows setup first threads record { proc = p; label = turn.label } run ask_first (is.is_run, plain) q (w.processors q) (is.truths q));
           under_way = λ a b. all_append _ (w.channels a b) (filter (goes a b) effect.sends)
-              (all_weaker _ _ (λ (msg : Msg) m. body_grows setup first threads record { proc = p; label = turn.label } run a b msg.carry.turn msg.body m) (w.channels a b) (is.under_way a b))
+              (all_weaker _ _ (λ (msg : Msg) m. body_grows setup first threads record { proc = p; label = turn.label } run ask_first (is.is_run, plain) a b msg.carry.turn msg.body m) (w.channels a b) (is.under_way a b))
               (sent_true now a b effect.sends told.sends);
           brings = (is.brings, brings setup first threads ask_first w steps h is p lt turn own);
         }
@@ -183,7 +186,7 @@ module _ {S : Type 0} (setup : Setup) (first : ℕ → S) (threads : Semantics S
         come = subst (AllByRecursion (λ (msg : Msg). IsTrue setup first threads run p q msg.carry.turn msg.body)) oldest (is.under_way p q)
 
         heard_true : IsTrueOf setup first threads run q heard
-        heard_true = record { mail = (is.truths q).mail; waits = (is.truths q).waits; homes = (is.truths q).homes; no_openings = (is.truths q).no_openings }
+        heard_true = record { mail = (is.truths q).mail; waits = (is.truths q).waits; homes = (is.truths q).homes; openings = (is.truths q).openings; barriers = (is.truths q).barriers }
 
         done_true : IsTrueEffect setup first threads run q done
         done_true = body_true setup first threads run q heard heard_true p msg.carry.turn msg.body come.0
@@ -213,7 +216,7 @@ module _ {S : Type 0} (setup : Setup) (first : ℕ → S) (threads : Semantics S
           brings = is.brings;
         }
 
-    has_history : Keeps setup first threads ask_first Has
+    pub has_history : Keeps setup first threads ask_first Has
     has_history = record {
       start = start_has;
       turn = λ w steps h p lt turn own is. turn_has w steps h is p lt turn own;

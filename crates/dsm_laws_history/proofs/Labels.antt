@@ -11,7 +11,7 @@ use Rattle.dsm_base.specs.declared.label.Want.{Want}
 use Rattle.dsm_base.specs.declared.setup.Piece.{Piece}
 use Rattle.dsm_base.specs.declared.setup.Setup.{Setup}
 use Rattle.dsm_base.specs.Access.{may_load}
-use Rattle.dsm_base.specs.Plain.{Surroundings, label_of, PlainState, seen_by, can_take, is_possible, plain_turn_of}
+use Rattle.dsm_base.specs.Plain.{Surroundings, label_of, PlainState, seen_by, can_take, can_cross, is_possible, plain_turn_of}
 
 -- two see the same of what a want reads
 pub record IsSameSight (pieces : List Piece) (p : ℕ) (own seen : Surroundings) (want : Want) : Type 0 where
@@ -40,14 +40,14 @@ label_same pieces p own seen text Want.End same = refl
 label_same pieces p own seen text (Want.Stop fault line) same = refl
 label_same pieces p own seen text Want.Over same = refl
 
--- a want that waits for nobody
+-- a want that need not wait for the others
 pub record IsFreeToGo {S : Type 0} (procs : ℕ) (s : PlainState S) (p : ℕ) (want : Want) : Type 0 where
   pub takes : (lock : Lock) (mode : Mode) → want ≡ Want.Take lock mode → can_take procs s.held p lock.0 mode ≡ true
-  pub no_cross : (bar : Bar) → want ≡ Want.Cross bar → ⊥
+  pub crosses : (bar : Bar) → want ≡ Want.Cross bar → can_cross procs s.arrived (s.crossed p bar.0) bar.0 ≡ true
 
 pub possible : {S : Type 0} (procs : ℕ) (s : PlainState S) (p : ℕ) (want : Want) → IsFreeToGo procs s p want → is_possible procs s p want ≡ true
 possible procs s p (Want.Take lock mode) free = free.takes lock mode refl
-possible procs s p (Want.Cross bar) free = absurd (free.no_cross bar refl)
+possible procs s p (Want.Cross bar) free = free.crosses bar refl
 possible procs s p _ free = refl
 
 pub plain_label : {S : Type 0} (setup : Setup) (p : ℕ) (own : Surroundings) (s : PlainState S) (text : List ℕ) (want : Want) (label : Label) → IsSameSight setup.bindings p own (seen_by s p) want → IsFreeToGo setup.procs s p want →

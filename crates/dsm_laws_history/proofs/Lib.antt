@@ -1,5 +1,7 @@
 pub mod Lines
 pub mod Marks
+pub mod BarrierLines
+pub mod BarrierMarks
 pub mod Truth
 pub mod Effects
 pub mod OwnParts
@@ -11,6 +13,9 @@ pub mod Histories
 pub mod Agreement
 pub mod Printing
 pub mod Handled
+pub mod Arrivals
+pub mod InPlace
 mod Example
+mod Crossed
 pub mod Grants
 pub mod Order

@@ -27,7 +27,7 @@ use Rattle.dsm_laws_history.specs.NewerLines.{line_at}
 abbrev pub is_in : ℕ → List ℕ → Bool
 is_in n ns = list_any (λ m. m == n) ns
 
-in_range : (n a count : ℕ) → is_in n (range_with_len a count) ≡ (nat_le a n && nat_lt n (a + count))
+pub in_range : (n a count : ℕ) → is_in n (range_with_len a count) ≡ (nat_le a n && nat_lt n (a + count))
 in_range n a zero = grind (arith, nat_tests, common_steps)
 in_range n a (suc count) = rw (in_range n (a + 1) count) (grind (arith, nat_tests, common_steps))
 
@@ -215,46 +215,76 @@ all_range P a (suc n) h = (
 first_of_line : (first count line : ℕ) → line < (count + 7) / 8 → ((nat_le first (first + 8 * line) && nat_lt (first + 8 * line) (first + count)) ≡ true) × (((first + 8 * line) - first) / 8 ≡ line)
 first_of_line first count line lt = (grind (arith, nat_tests, common_steps), omega arith)
 
--- what holds of the line of each of a lock's cells holds of each of its lines
-lines_from_all : (P : ℕ → Type 0) (lock : Lock) (pieces : List Piece) → are_apart pieces ≡ true → (start : ℕ) → ((cell : ℕ) → is_of_lock lock.0 (piece_of pieces cell) ≡ true → P (start + line_at pieces cell)) →
-    AllByRecursion P (lines_from start pieces (Object.Lock lock))
-lines_from_all P lock [] apart start each = tt
-lines_from_all P lock (piece ∷ others) apart start each =
-    go (lines_from_all P lock others (both_second (list_all (is_apart piece) others) _ apart) (start + line_count piece) further) (same_object piece.object (Object.Lock lock)) refl
-  where
-    none_of_none : (o : Option Piece) → o ≡ None → is_of_lock lock.0 o ≡ true → ⊥
-    none_of_none o e is = let k : is_of_lock lock.0 None ≡ true = rw e at is in cc
+-- whether a piece is bound to an object
+abbrev pub of_object : Object → Option Piece → Bool
+of_object object None = false
+of_object object (Some piece) = same_object piece.object object
 
-    further : (cell : ℕ) → is_of_lock lock.0 (piece_of others cell) ≡ true → P ((start + line_count piece) + line_at others cell)
+of_lock_is : (lock : Lock) (piece : Option Piece) → of_object (Object.Lock lock) piece ≡ is_of_lock lock.0 piece
+of_lock_is lock None = refl
+of_lock_is lock (Some piece) = same_lock piece.object lock
+
+-- what holds of the line of each of an object's cells holds of each of its lines
+lines_from_all : (P : ℕ → Type 0) (object : Object) (pieces : List Piece) → are_apart pieces ≡ true → (start : ℕ) → ((cell : ℕ) → of_object object (piece_of pieces cell) ≡ true → P (start + line_at pieces cell)) →
+    AllByRecursion P (lines_from start pieces object)
+lines_from_all P object [] apart start each = tt
+lines_from_all P object (piece ∷ others) apart start each =
+    go (lines_from_all P object others (both_second (list_all (is_apart piece) others) _ apart) (start + line_count piece) further) (same_object piece.object object) refl
+  where
+    none_of_none : (o : Option Piece) → o ≡ None → of_object object o ≡ true → ⊥
+    none_of_none o e is = let k : of_object object None ≡ true = rw e at is in cc
+
+    further : (cell : ℕ) → of_object object (piece_of others cell) ≡ true → P ((start + line_count piece) + line_at others cell)
     further cell is = at_cell (has_cell cell piece) refl
       where
         at_cell : (b : Bool) → has_cell cell piece ≡ b → P ((start + line_count piece) + line_at others cell)
         at_cell true has = absurd (none_of_none (piece_of others cell) (in_no_other piece others cell (both_first _ (are_apart others) apart) has) is)
         at_cell false has = subst P (omega arith) (let h : P (start + line_by_first piece others cell) = subst (λ n. P (start + n)) (by_first piece others cell) (each cell (rw has is)) in rw has at h)
 
-    here : same_object piece.object (Object.Lock lock) ≡ true → (k : ℕ) → k < line_count piece → P (start + k)
+    here : same_object piece.object object ≡ true → (k : ℕ) → k < line_count piece → P (start + k)
     here same k lt =
         let cell = first_of_line piece.first.0 piece.count k lt in
-        let at : P (start + line_by_first piece others (piece.first.0 + 8 * k)) = subst (λ n. P (start + n)) (by_first piece others (piece.first.0 + 8 * k)) (each (piece.first.0 + 8 * k) (rw cell.0 (sym (same_lock piece.object lock) ∙ same))) in
+        let at : P (start + line_by_first piece others (piece.first.0 + 8 * k)) = subst (λ n. P (start + n)) (by_first piece others (piece.first.0 + 8 * k)) (each (piece.first.0 + 8 * k) (rw cell.0 same)) in
         subst (λ n. P (start + n)) cell.1 (rw cell.0 at at)
 
-    go : AllByRecursion P (lines_from (start + line_count piece) others (Object.Lock lock)) → (b : Bool) → same_object piece.object (Object.Lock lock) ≡ b → AllByRecursion P (lines_from start (piece ∷ others) (Object.Lock lock))
-    go more true same = rw same (all_append P (range_with_len start (line_count piece)) (lines_from (start + line_count piece) others (Object.Lock lock)) (all_range P start (line_count piece) (here same)) more)
+    go : AllByRecursion P (lines_from (start + line_count piece) others object) → (b : Bool) → same_object piece.object object ≡ b → AllByRecursion P (lines_from start (piece ∷ others) object)
+    go more true same = rw same (all_append P (range_with_len start (line_count piece)) (lines_from (start + line_count piece) others object) (all_range P start (line_count piece) (here same)) more)
     go more false same = rw same more
+
+pub lines_all_of : (P : ℕ → Type 0) (object : Object) (pieces : List Piece) → are_apart pieces ≡ true → ((cell : ℕ) → of_object object (piece_of pieces cell) ≡ true → P (line_at pieces cell)) →
+    AllByRecursion P (lines_of pieces object)
+lines_all_of P object pieces apart each = lines_from_all P object pieces apart 0 (λ cell is. subst P (omega arith) (each cell is))
 
 pub lines_all : (P : ℕ → Type 0) (lock : Lock) (pieces : List Piece) → are_apart pieces ≡ true → ((cell : ℕ) → is_of_lock lock.0 (piece_of pieces cell) ≡ true → P (line_at pieces cell)) →
     AllByRecursion P (lines_of pieces (Object.Lock lock))
-lines_all P lock pieces apart each = lines_from_all P lock pieces apart 0 (λ cell is. subst P (omega arith) (each cell is))
+lines_all P lock pieces apart each = lines_all_of P (Object.Lock lock) pieces apart (λ cell is. each cell (sym (of_lock_is lock (piece_of pieces cell)) ∙ is))
+
+-- cells of one line are in one piece
+pub same_piece : (pieces : List Piece) (cell other : ℕ) → is_some (piece_of pieces cell) ≡ true → is_some (piece_of pieces other) ≡ true → line_at pieces cell ≡ line_at pieces other →
+    piece_of pieces cell ≡ piece_of pieces other
+same_piece [] cell other bound also e = refl
+same_piece (piece ∷ others) cell other bound also e = go (same_piece others cell other) (has_cell cell piece) refl (has_cell other piece) refl
+  where
+    lines : line_by_first piece others cell ≡ line_by_first piece others other
+    lines = sym (by_first piece others cell) ∙ e ∙ by_first piece others other
+
+    go : (is_some (piece_of others cell) ≡ true → is_some (piece_of others other) ≡ true → line_at others cell ≡ line_at others other → piece_of others cell ≡ piece_of others other) →
+        (b : Bool) → has_cell cell piece ≡ b → (c : Bool) → has_cell other piece ≡ c → piece_of (piece ∷ others) cell ≡ piece_of (piece ∷ others) other
+    go more true has true too = rw (has, too) refl
+    go more true has false not_in = absurd (let k : (cell - piece.first.0) / 8 ≡ line_count piece + line_at others other = rw (has, not_in) at lines in let lt = line_in_piece piece.first.0 piece.count cell has in omega arith)
+    go more false not_in true has = absurd (let k : line_count piece + line_at others cell ≡ (other - piece.first.0) / 8 = rw (not_in, has) at lines in let lt = line_in_piece piece.first.0 piece.count other has in omega arith)
+    go more false not_in false neither = rw (not_in, neither) (more (rw not_in at bound) (rw neither at also)
+        (let k : line_count piece + line_at others cell ≡ line_count piece + line_at others other = rw (not_in, neither) at lines in omega arith))
 
 -- Lines with values.
 
-both_true : (b c : Bool) → (b && c) ≡ true → (b ≡ true) × (c ≡ true)
+pub both_true : (b c : Bool) → (b && c) ≡ true → (b ≡ true) × (c ≡ true)
 both_true b c e = (grind arith, grind arith)
 
-is_number : (a b : ℕ) → (a == b) ≡ true → a ≡ b
+pub is_number : (a b : ℕ) → (a == b) ≡ true → a ≡ b
 is_number a b e = elim (eqb_tells a b) [ inl (_, i) ↦ i | inr (f, _) ↦ absurd (true≢false (sym e ∙ f)) ]
 
-map_same : (one other : ℕ → ℤ) (cells : List ℕ) → ((cell : ℕ) → is_in cell cells ≡ true → one cell ≡ other cell) → map one cells ≡ map other cells
+pub map_same : (one other : ℕ → ℤ) (cells : List ℕ) → ((cell : ℕ) → is_in cell cells ≡ true → one cell ≡ other cell) → map one cells ≡ map other cells
 map_same one other [] same = refl
 map_same one other (cell ∷ cells) same = ap₂ (λ value values. value ∷ values) (same cell (grind arith)) (map_same one other cells (λ d is. same d (rw is (grind arith))))
 
@@ -270,7 +300,7 @@ module _ (setup : Setup) where
   abbrev pub pieces : List Piece
   pieces = setup.bindings
 
-  apart : are_apart setup.bindings ≡ true
+  pub apart : are_apart setup.bindings ≡ true
   apart = (room_of setup).apart
 
   line_same : (lock : Lock) (one other : ℕ → ℤ) → SameAt setup lock.0 one other → (cell : ℕ) → IsCellOf setup lock.0 cell → line_with pieces one (line_at pieces cell) ≡ line_with pieces other (line_at pieces cell)
@@ -300,14 +330,14 @@ module _ (setup : Setup) where
         | inr (t, _) ↦ rw (t, turned_false cell first t) refl
       ]
 
-  overlaid_is : (values : ℕ → ℤ) (lines : List ℕ) (memory : ℕ → ℤ) (cell : ℕ) →
+  pub overlaid_is : (values : ℕ → ℤ) (lines : List ℕ) (memory : ℕ → ℤ) (cell : ℕ) →
       overlaid pieces memory (map (line_with pieces values) lines) cell ≡ (if list_any (λ line. is_in cell (cells_in pieces line)) lines then values cell else memory cell)
   overlaid_is values [] memory cell = refl
   overlaid_is values (line ∷ lines) memory cell =
       overlaid_is values lines (laid memory (cells_in pieces line) (map values (cells_in pieces line))) cell
       ∙ (let e = laid_is values (cells_in pieces line) memory cell in grind (arith, e))
 
-  in_lines : (cell : ℕ) (lines : List ℕ) → list_any (λ line. is_in cell (cells_in pieces line)) lines ≡ (is_some (piece_of pieces cell) && is_in (line_at pieces cell) lines)
+  pub in_lines : (cell : ℕ) (lines : List ℕ) → list_any (λ line. is_in cell (cells_in pieces line)) lines ≡ (is_some (piece_of pieces cell) && is_in (line_at pieces cell) lines)
   in_lines cell [] = grind arith
   in_lines cell (line ∷ lines) = rw (in_line pieces apart cell line, in_lines cell lines) (turned (is_some (piece_of pieces cell)) (line_at pieces cell) line (is_in (line_at pieces cell) lines))
     where

@@ -7,6 +7,7 @@ use Rattle.std.proofs.lemmas.List.{map-append}
 use Rattle.dsm_base.specs.declared.act.Act.{Act}
 use Rattle.dsm_base.specs.declared.holders.Holder.{Holder}
 use Rattle.dsm_base.specs.declared.lists.PendingLine.{PendingLine}
+use Rattle.dsm_base.specs.declared.names.Bar.{Bar}
 use Rattle.dsm_base.specs.declared.names.Lock.{Lock}
 use Rattle.dsm_base.specs.declared.names.Mode.{Mode}
 use Rattle.dsm_base.specs.declared.label.Label.{Label}
@@ -25,7 +26,7 @@ use Rattle.dsm_net.specs.declared.trace.Rec.{Rec}
 use Rattle.dsm_net.specs.declared.trace.Group.{Group}
 use Rattle.dsm_net.specs.Processor.{Own, Processor, start_processor}
 use Rattle.dsm_net.specs.Turns.{OwnTurn, own_turn, dirty_lines}
-use Rattle.dsm_net.specs.Messages.{home_of, with_carry}
+use Rattle.dsm_net.specs.Messages.{home_of, manager_of, with_carry}
 use Rattle.dsm_net.specs.Effects.{Effect, counts, waiting_of, with_request, with_release, effect_of, effect_of_body, effect_of_message, release_of, body_of, processor_after, effect_of_telling, effect_of_turn}
 use Rattle.dsm_net.specs.Net.{Net}
 use Rattle.dsm_net.specs.Units.{Outcome, Made, with_letter, with_message, with_message_to, with_messages, with_lines_out, with_line_out, with_processor, with_effect, step_with, step_of, delivery_of, unit_of}
@@ -152,6 +153,12 @@ module _ (setup : Setup) (me : ℕ) where
       | inr (t, _) ↦ rw t (nothing_told (Label.Give lock))
     ]
 
+    arrived_order : (bar : Bar) (epoch : ℕ) (lines : List Line) → Tells (Label.Arrive bar) (effect_of_telling setup me s (Some (Body.Arrive bar epoch lines))).processor.locks
+    arrived_order bar epoch lines = elim (eqb_tells (manager_of setup bar.0) me) [
+      | inl (t, i) ↦ rw t (body_order requests s h me s.own.turns (Body.Arrive bar epoch lines))
+      | inr (t, _) ↦ rw t (nothing_told (Label.Arrive bar))
+    ]
+
     told_order : (own : Own S) (label : Label) → Tells label (effect_of_telling setup me s (body_of setup own label)).processor.locks
     told_order own (Label.Ask lock mode) = asked_order lock mode (own.versions lock.0)
     told_order own (Label.Give lock) = gives (own.held lock.0)
@@ -164,7 +171,7 @@ module _ (setup : Setup) (me : ℕ) where
     told_order own (Label.Load cell value) = nothing_told (Label.Load cell value)
     told_order own (Label.Store cell value) = nothing_told (Label.Store cell value)
     told_order own (Label.Take lock mode version) = nothing_told (Label.Take lock mode version)
-    told_order own (Label.Arrive bar) = nothing_told (Label.Arrive bar)
+    told_order own (Label.Arrive bar) = arrived_order bar (own.crossed bar.0) (dirty_lines setup own (Object.Bar bar))
     told_order own (Label.Cross bar epoch) = nothing_told (Label.Cross bar epoch)
     told_order own (Label.Line text) = nothing_told (Label.Line text)
     told_order own Label.End = nothing_told Label.End

@@ -1,5 +1,5 @@
 -- The turn of a processor is that of the machine of one memory, brings the lines that it should, and leaves its copy as it should.
-use Rattle.std.specs.Prelude.{◌≡◌, ◌≢◌, ℕ, ℤ, ◌+◌, ◌-◌, ◌<◌, ◌≤◌, Bool, true, false, ◌&&◌, ◌||◌, ◌==◌, nat_lt, List, [], ◌∷◌, length, find, Option, Some, None, option_map}
+use Rattle.std.specs.Prelude.{◌≡◌, ◌≢◌, ℕ, ℤ, ◌+◌, ◌-◌, ◌<◌, ◌≤◌, Bool, true, false, ◌||◌, ◌==◌, nat_lt, List, [], ◌∷◌, length, find, Option, Some, None, option_map}
 use Rattle.std.specs.List.{AllByRecursion}
 use Rattle.std.proofs.Common.{arith, refl, sym, ap, ap₂, ◌∙◌, subst}
 use Rattle.std.proofs.lemmas.List.{length-map}
@@ -15,23 +15,23 @@ use Rattle.dsm_base.specs.declared.setup.Setup.{Setup}
 use Rattle.dsm_base.specs.Access.{piece_of, may_load}
 use Rattle.dsm_base.specs.Holders.{are_compatible}
 use Rattle.dsm_base.specs.Threads.{Semantics, state_after}
-use Rattle.dsm_base.specs.Plain.{PlainState, Turn, IsPlainTurn, after_run, labels_of, seen_by, plain_turn, plain_turn_of, can_take, may_stand_beside, memory_after}
+use Rattle.dsm_base.specs.Plain.{Surroundings, label_of, PlainState, Turn, IsPlainTurn, after_run, labels_of, seen_by, plain_turn, plain_turn_of, can_take, can_cross, may_stand_beside, memory_after}
 use Rattle.dsm_base.specs.Agrees.{is_between, is_between_of, is_between_at}
 use Rattle.dsm_base.proofs.Families.{all_from}
 use Rattle.dsm_lines.specs.declared.list.Line.{Line}
 use Rattle.dsm_lines.specs.declared.of_objects.MailGrant.{MailGrant}
+use Rattle.dsm_lines.specs.declared.of_objects.MailOpening.{MailOpening}
 use Rattle.dsm_lines.specs.Copies.{overlaid}
 use Rattle.dsm_net.specs.Processor.{Processor}
-use Rattle.dsm_net.specs.Inputs.{Input, is_grant_for, input_of_grant, input_of_opening, input_for}
+use Rattle.dsm_net.specs.Inputs.{Input, is_grant_for, is_opening_of, input_of_grant, input_of_opening, input_for}
 use Rattle.dsm_net.specs.Turns.{OwnTurn, own_view}
 use Rattle.dsm_net.specs.Messages.{home_of}
-use Rattle.dsm_laws_runs.specs.OwnPart.{own_versions_of}
+use Rattle.dsm_laws_runs.specs.OwnPart.{arrived_of, own_versions_of}
 use Rattle.dsm_laws_runs.specs.Versions.{AllAskFirst, memory_at}
 use Rattle.dsm_laws_runs.specs.Newer.{is_newer}
 use Rattle.dsm_laws_runs.specs.Epochs.{IsInStep}
 use Rattle.dsm_laws_runs.specs.Copies.{newest_copy, memories_of, Renews}
-use Rattle.dsm_laws_runs.proofs.OwnPart.{own_thread, own_held, own_crossed}
-use Rattle.dsm_laws_runs.proofs.Turns.{crosses_of}
+use Rattle.dsm_laws_runs.proofs.OwnPart.{own_thread, own_held, own_arrived, own_crossed}
 use Rattle.dsm_laws_runs.proofs.Epochs.{in_step}
 use Rattle.dsm_laws_runs.proofs.CopiesKept.{copies_own}
 use Rattle.dsm_laws_runs.proofs.Agreements.{agrees_with}
@@ -48,8 +48,9 @@ use Rattle.dsm_laws_protocol.proofs.Journeys.{found_for}
 use Rattle.dsm_laws_protocol.proofs.Threads.{is_other, Answer, ByTake, ByAsk, ByGive, ByOther, answered}
 use Rattle.dsm_laws_protocol.proofs.Own.{IsOwnTurn, label_follows}
 use Rattle.dsm_laws_protocol.proofs.Reached.{IsReached}
-use Rattle.dsm_laws_history.specs.NewerLines.{line_at, lines_between, Brings, AreNewer}
+use Rattle.dsm_laws_history.specs.NewerLines.{line_at, lines_between, lines_of_crossing, Brings, AreNewer, IsOpening}
 use Rattle.dsm_laws_history.proofs.Lines.{overlaid_chosen}
+use Rattle.dsm_laws_history.proofs.BarrierLines.{crossing_renews}
 use Rattle.dsm_laws_history.proofs.Labels.{IsSameSight, IsFreeToGo, plain_label}
 use Rattle.dsm_laws_history.proofs.OwnParts.{versions_total}
 use Rattle.dsm_laws_history.proofs.Effects.{both_are, same_numbers}
@@ -77,15 +78,31 @@ answered_by s lock mode want input w e = go (find (is_grant_for (s.own.turns + 1
     go None i k = cc
     go (Some grant) i k = record { grant = grant; is_found = i; is_input = let same : input_of_grant grant ≡ input = cc in sym same }
 
--- nobody crosses a barrier without an opening
-no_crossing : {S : Type 0} (s : Processor S) (bar : Bar) (want : Want) (input : Input) → s.mail.openings ≡ [] → want ≡ Want.Cross bar → input_for s want ≡ Some input → ⊥
-no_crossing s bar want input none w e = let k : option_map input_of_opening (find (λ opening. (opening.bar.0 == bar.0) && (opening.epoch == s.own.crossed bar.0 + 1)) []) ≡ Some input = rw none at (rw w at e) in cc
+-- an opening that answers a want
+pub record IsOpened {S : Type 0} (s : Processor S) (bar : Bar) (input : Input) : Type 0 where
+  pub opening : MailOpening
+  pub is_found : find (is_opening_of bar.0 (s.own.crossed bar.0 + 1)) s.mail.openings ≡ Some opening
+  pub is_input : input ≡ input_of_opening opening
 
--- only a take needs lines
-other_lines : {S : Type 0} (s : Processor S) (want : Want) (input : Input) → s.mail.openings ≡ [] → ((lock : Lock) (mode : Mode) → want ≢ Want.Take lock mode) → input_for s want ≡ Some input → input.lines ≡ []
-other_lines s (Want.Take lock mode) input none no_take e = absurd (no_take lock mode refl)
-other_lines s (Want.Cross bar) input none no_take e = absurd (no_crossing s bar (Want.Cross bar) input none refl e)
-other_lines s want input none no_take e = let k : record { number = 0; lines = [] } ≡ input = cc in ap (λ (i : Input). i.lines) (sym k)
+pub opened_by : {S : Type 0} (s : Processor S) (bar : Bar) (want : Want) (input : Input) → want ≡ Want.Cross bar → input_for s want ≡ Some input → IsOpened s bar input
+opened_by s bar want input w e = go (find (is_opening_of bar.0 (s.own.crossed bar.0 + 1)) s.mail.openings) refl (rw w at e)
+  where
+    go : (o : Option MailOpening) → find (is_opening_of bar.0 (s.own.crossed bar.0 + 1)) s.mail.openings ≡ o → option_map input_of_opening o ≡ Some input → IsOpened s bar input
+    go None i k = cc
+    go (Some opening) i k = record { opening = opening; is_found = i; is_input = let same : input_of_opening opening ≡ input = cc in sym same }
+
+-- only a take and a crossing need lines
+other_lines : {S : Type 0} (s : Processor S) (want : Want) (input : Input) → ((lock : Lock) (mode : Mode) → want ≢ Want.Take lock mode) → ((bar : Bar) → want ≢ Want.Cross bar) → input_for s want ≡ Some input → input.lines ≡ []
+other_lines s (Want.Take lock mode) input no_take no_cross e = absurd (no_take lock mode refl)
+other_lines s (Want.Cross bar) input no_take no_cross e = absurd (no_cross bar refl)
+other_lines s want input no_take no_cross e = let k : record { number = 0; lines = [] } ≡ input = cc in ap (λ (i : Input). i.lines) (sym k)
+
+-- who wants to cross a barrier has the label of that crossing, and nobody else has
+pub want_of_cross : (pieces : List Piece) (p : ℕ) (seen : Surroundings) (text : List ℕ) (want : Want) (label : Label) → label_of pieces p seen text want ≡ Some label → (bar : Bar) → want ≡ Want.Cross bar → label ≡ Label.Cross bar (seen.rights.crossed bar.0 + 1)
+want_of_cross pieces p seen text want label e bar w = let k : Some (Label.Cross bar (seen.rights.crossed bar.0 + 1)) ≡ Some label = rw w at e in cc
+
+pub cross_of_label : (pieces : List Piece) (p : ℕ) (seen : Surroundings) (text : List ℕ) (want : Want) (bar : Bar) (epoch : ℕ) → label_of pieces p seen text want ≡ Some (Label.Cross bar epoch) → want ≡ Want.Cross bar
+cross_of_label pieces p seen text want bar epoch e = grind arith
 
 -- the mode of the grant that is found is that in which the lock is taken
 taken_mode : (procs : ℕ) (s : Situation) (h : IsLawful procs s) (q : ℕ) (grant : MailGrant) (mode : Mode) (version : ℕ) → find (λ one. one.turn == length (s.moves q) + 1) (s.grants q) ≡ Some grant → Follows (s.moves q) (takes mode version) → grant.mode ≡ mode
@@ -202,8 +219,31 @@ module _ {S : Type 0} (setup : Setup) (first : ℕ → S) (threads : Semantics S
         are_lines = ap (λ (i : Input). i.lines) by.is_input ∙ it.are_lines ∙ ap (lines_between setup first threads run lock.0 (own_versions_of (labels_of p run) lock.0)) (sym n);
       }
 
-  crosses_not : (bar : Bar) → want ≡ Want.Cross bar → ⊥
-  crosses_not bar e = no_crossing s bar want own.input (is.truths p).no_openings e own.is_input
+  -- what a crossing finds
+  record IsCrossed (bar : Bar) : Type 0 where
+    possible : can_cross setup.procs plain.arrived (plain.crossed p bar.0) bar.0 ≡ true
+    are_lines : own.input.lines ≡ lines_of_crossing setup run bar.0 (plain.crossed p bar.0 + 1) p
+
+  crossed_same : s.own.crossed ≡ plain.crossed p
+  crossed_same = (is.owns p).crossed ∙ sym (own_crossed first threads run p)
+
+  crossing : (bar : Bar) → want ≡ Want.Cross bar → IsCrossed bar
+  crossing bar e =
+      let by : IsOpened s bar own.input = opened_by s bar want own.input e own.is_input in
+      let has = found_has (λ (o : MailOpening). IsOpening setup run p o.bar.0 o.epoch o.lines) (is_opening_of bar.0 (s.own.crossed bar.0 + 1)) s.mail.openings by.opening (is.truths p).openings by.is_found in
+      let test = both_are (by.opening.bar.0 == bar.0) (by.opening.epoch == s.own.crossed bar.0 + 1) has.1 in
+      let is_bar : by.opening.bar.0 ≡ bar.0 = same_numbers by.opening.bar.0 bar.0 test.0 in
+      let is_epoch : by.opening.epoch ≡ plain.crossed p bar.0 + 1 = same_numbers by.opening.epoch (s.own.crossed bar.0 + 1) test.1 ∙ ap (λ f. f bar.0 + 1) crossed_same in
+      let opening : IsOpening setup run p bar.0 (plain.crossed p bar.0 + 1) by.opening.lines =
+      subst (λ n. IsOpening setup run p bar.0 n by.opening.lines) is_epoch (subst (λ b. IsOpening setup run p b by.opening.epoch by.opening.lines) is_bar has.0) in
+      record {
+        possible = all_from setup.procs (λ q. nat_lt (plain.crossed p bar.0) (plain.arrived q bar.0))
+            (λ q less. over (plain.crossed p bar.0) (plain.arrived q bar.0) (let k = opening.all_came q less in let a : plain.arrived q bar.0 ≡ arrived_of (labels_of q run) bar.0 = ap (λ f. f bar.0) (own_arrived first threads run q) in omega arith));
+        are_lines = ap (λ (i : Input). i.lines) by.is_input ∙ opening.are_lines;
+      }
+    where
+      over : (n m : ℕ) → n + 1 ≤ m → nat_lt n m ≡ true
+      over n m le = grind arith
 
   -- who wants to load has crossed what it came to
   not_between : (cell : Cell) (line : ℕ) → want ≡ Want.Load cell line → is_between setup.bindings plain p cell.0 ≡ false
@@ -233,13 +273,13 @@ module _ {S : Type 0} (setup : Setup) (first : ℕ → S) (threads : Semantics S
 
   same_sight : IsSameSight setup.bindings p (own_view s.own own.input.number) (seen_by plain p) want
   same_sight = record {
-    rights = ap₂ (λ held crossed. record { held = held; crossed = crossed }) (held_same p) ((is.owns p).crossed ∙ sym (own_crossed first threads run p));
+    rights = ap₂ (λ held crossed. record { held = held; crossed = crossed }) (held_same p) crossed_same;
     memory = loads_same;
     versions = λ lock mode e. (taken lock mode e).is_version;
   }
 
   free_to_go : IsFreeToGo setup.procs plain p want
-  free_to_go = record { takes = λ lock mode e. (taken lock mode e).possible; no_cross = crosses_not }
+  free_to_go = record { takes = λ lock mode e. (taken lock mode e).possible; crosses = λ bar e. (crossing bar e).possible }
 
   pub is_plain : plain_turn setup threads plain p ≡ Some turn.label
   is_plain = subst (λ x. plain_turn_of setup plain p (threads.text x) (threads.want x) ≡ Some turn.label) (sym thread_same)
@@ -247,35 +287,56 @@ module _ {S : Type 0} (setup : Setup) (first : ℕ → S) (threads : Semantics S
 
   -- What it brings.
 
-  brings_none : (label : Label) → is_other label ≡ true → turn.lines ≡ [] → Brings setup first threads run p label turn.lines
-  brings_none (Label.Take lock mode version) o e = cc
-  brings_none _ o e = e
+  no_lines : ((lock : Lock) (mode : Mode) → want ≢ Want.Take lock mode) → ((bar : Bar) → want ≢ Want.Cross bar) → turn.lines ≡ []
+  no_lines no_take no_cross = own.is_lines ∙ other_lines s want own.input no_take no_cross own.is_input
 
-  no_lines : ((lock : Lock) (mode : Mode) → want ≢ Want.Take lock mode) → turn.lines ≡ []
-  no_lines no_take = own.is_lines ∙ other_lines s want own.input (is.truths p).no_openings no_take own.is_input
+  -- who makes another turn than a crossing didn't want to cross
+  wants_no_cross : (label : Label) → turn.label ≡ label → ((bar : Bar) (epoch : ℕ) → label ≢ Label.Cross bar epoch) → (bar : Bar) → want ≢ Want.Cross bar
+  wants_no_cross label l none bar e =
+      none bar (s.own.crossed bar.0 + 1) (sym l ∙ want_of_cross setup.bindings p (own_view s.own own.input.number) (threads.text s.own.thread) want turn.label own.is_label bar e)
+
+  cross_lines : (bar : Bar) (epoch : ℕ) → turn.label ≡ Label.Cross bar epoch → turn.lines ≡ lines_of_crossing setup run bar.0 epoch p
+  cross_lines bar epoch l =
+      let labelled : label_of setup.bindings p (own_view s.own own.input.number) (threads.text s.own.thread) want ≡ Some (Label.Cross bar epoch) = own.is_label ∙ ap Some l in
+      let wanted : want ≡ Want.Cross bar = cross_of_label setup.bindings p (own_view s.own own.input.number) (threads.text s.own.thread) want bar epoch labelled in
+      let same : Label.Cross bar epoch ≡ Label.Cross bar (s.own.crossed bar.0 + 1) = want_of_cross setup.bindings p (own_view s.own own.input.number) (threads.text s.own.thread) want (Label.Cross bar epoch) labelled bar wanted in
+      let number : epoch ≡ s.own.crossed bar.0 + 1 = cc in
+      own.is_lines ∙ (crossing bar wanted).are_lines ∙ ap (λ n. lines_of_crossing setup run bar.0 n p) (sym (number ∙ ap (λ f. f bar.0 + 1) crossed_same))
+
+  brings_other : (label : Label) → turn.label ≡ label → is_other label ≡ true → ((lock : Lock) (mode : Mode) → want ≢ Want.Take lock mode) → Brings setup first threads run p label turn.lines
+  brings_other (Label.Take lock mode version) l o no_take = cc
+  brings_other (Label.Cross bar epoch) l o no_take = cross_lines bar epoch l
+  brings_other Label.Quiet l o no_take = no_lines no_take (wants_no_cross Label.Quiet l (λ bar epoch e. cc))
+  brings_other (Label.Load cell value) l o no_take = no_lines no_take (wants_no_cross (Label.Load cell value) l (λ bar epoch e. cc))
+  brings_other (Label.Store cell value) l o no_take = no_lines no_take (wants_no_cross (Label.Store cell value) l (λ bar epoch e. cc))
+  brings_other (Label.Ask lock mode) l o no_take = no_lines no_take (wants_no_cross (Label.Ask lock mode) l (λ bar epoch e. cc))
+  brings_other (Label.Give lock) l o no_take = no_lines no_take (wants_no_cross (Label.Give lock) l (λ bar epoch e. cc))
+  brings_other (Label.Arrive bar) l o no_take = no_lines no_take (wants_no_cross (Label.Arrive bar) l (λ other epoch e. cc))
+  brings_other (Label.Line text) l o no_take = no_lines no_take (wants_no_cross (Label.Line text) l (λ bar epoch e. cc))
+  brings_other Label.End l o no_take = no_lines no_take (wants_no_cross Label.End l (λ bar epoch e. cc))
+  brings_other (Label.Stop fault line) l o no_take = no_lines no_take (wants_no_cross (Label.Stop fault line) l (λ bar epoch e. cc))
 
   pub brings : Brings setup first threads run p turn.label turn.lines
   brings = go (answered setup.bindings p (own_view s.own own.input.number) (threads.text s.own.thread) want turn.label own.is_label)
     where
       go : Answer want s.own.held turn.label → Brings setup first threads run p turn.label turn.lines
       go (ByTake lock mode version e l) = subst (λ label. Brings setup first threads run p label turn.lines) (take_label lock mode e) (own.is_lines ∙ (taken lock mode e).are_lines)
-      go (ByAsk lock mode line e l f) = subst (λ label. Brings setup first threads run p label turn.lines) (sym l) (no_lines (λ other m k. let x : Want.Ask lock mode line ≡ Want.Take other m = sym e ∙ k in cc))
-      go (ByGive lock n l f) = subst (λ label. Brings setup first threads run p label turn.lines) (sym l) (no_lines n)
-      go (ByOther n o) = brings_none turn.label o (no_lines n)
+      go (ByAsk lock mode line e l f) = subst (λ label. Brings setup first threads run p label turn.lines) (sym l) (no_lines (λ other m k. let x : Want.Ask lock mode line ≡ Want.Take other m = sym e ∙ k in cc) (λ bar k. let x : Want.Ask lock mode line ≡ Want.Cross bar = sym e ∙ k in cc))
+      go (ByGive lock n l f) = subst (λ label. Brings setup first threads run p label turn.lines) (sym l) (no_lines n (wants_no_cross (Label.Give lock) l (λ bar epoch e. cc)))
+      go (ByOther n o) = brings_other turn.label refl o n
 
   -- What it leaves of the copy.
 
-  cross_not : (bar : Bar) (epoch : ℕ) → turn.label ≡ Label.Cross bar epoch → ⊥
-  cross_not bar epoch e = crosses_not bar (ap threads.want (sym thread_same) ∙ (crosses_of setup plain p _ _ bar epoch (rw e at is_plain)).wanted)
-
-  renewed : (label : Label) (lines : List Line) → plain_turn setup threads plain p ≡ Some label → Brings setup first threads run p label lines → ((bar : Bar) (epoch : ℕ) → label ≡ Label.Cross bar epoch → ⊥) →
+  renewed : (label : Label) (lines : List Line) → plain_turn setup threads plain p ≡ Some label → Brings setup first threads run p label lines →
       Renews setup (memories_of setup first threads run) p label (newest_copy copies.turns) (overlaid setup.bindings (memory_after (newest_copy copies.turns) label) lines)
-  renewed (Label.Take lock mode version) lines e b n =
+  renewed (Label.Take lock mode version) lines e b =
       newer_take (line_at setup.bindings) setup first threads run p copies.turns copies.has lock mode version record { is_processor = lt; is_label = e } (overlaid setup.bindings (newest_copy copies.turns) lines)
       (λ cell. ap (λ ls. overlaid setup.bindings (newest_copy copies.turns) ls cell) b
       ∙ overlaid_chosen setup lock (is_newer (line_at setup.bindings) setup first threads run lock.0 (own_versions_of (labels_of p run) lock.0) version) (memory_at first threads run lock.0 version) (newest_copy copies.turns) cell)
-  renewed (Label.Cross bar epoch) lines e b n = absurd (n bar epoch refl)
-  renewed label lines e b n = λ cell. ap (λ ls. overlaid setup.bindings (memory_after (newest_copy copies.turns) label) ls cell) b
+  renewed (Label.Cross bar epoch) lines e b =
+      subst (λ ls. Renews setup (memories_of setup first threads run) p (Label.Cross bar epoch) (newest_copy copies.turns) (overlaid setup.bindings (newest_copy copies.turns) ls)) (sym b)
+      (crossing_renews setup first threads run p copies.turns copies.has bar epoch record { is_processor = lt; is_label = e })
+  renewed label lines e b = λ cell. ap (λ ls. overlaid setup.bindings (memory_after (newest_copy copies.turns) label) ls cell) b
 
   pub is_turn : IsPlainTurn setup threads plain record { proc = p; label = turn.label }
   is_turn = record { is_processor = lt; is_label = is_plain }
@@ -285,6 +346,6 @@ module _ {S : Type 0} (setup : Setup) (first : ℕ → S) (threads : Semantics S
       let now : ℕ → ℤ = overlaid setup.bindings (memory_after (newest_copy copies.turns) turn.label) turn.lines in
       record {
         turns = record { label = turn.label; copy = now } ∷ copies.turns;
-        has = copies_own setup first threads p record { proc = p; label = turn.label } run copies.turns copies.has is_turn refl now (renewed turn.label turn.lines is_plain brings cross_not);
+        has = copies_own setup first threads p record { proc = p; label = turn.label } run copies.turns copies.has is_turn refl now (renewed turn.label turn.lines is_plain brings);
         is_copy = ap (λ copy. overlaid setup.bindings (memory_after copy turn.label) turn.lines) copies.is_copy;
       }

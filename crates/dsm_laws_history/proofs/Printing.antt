@@ -10,6 +10,7 @@ use Rattle.dsm_base.specs.declared.setup.Setup.{Setup}
 use Rattle.dsm_base.specs.Family.{update, update_at}
 use Rattle.dsm_base.specs.Output.{line_text, printed_line, printed_of, printed_lines}
 use Rattle.dsm_base.specs.Threads.{Semantics}
+use Rattle.dsm_lines.specs.declared.of_objects.Opening.{Opening}
 use Rattle.dsm_msg.specs.declared.message.Body.{Body}
 use Rattle.dsm_msg.specs.declared.message.Msg.{Msg}
 use Rattle.dsm_home.specs.declared.waiting.Waiting.{Waiting}
@@ -21,7 +22,8 @@ use Rattle.dsm_net.specs.Processor.{Own, Processor, start_processor}
 use Rattle.dsm_net.specs.Turns.{OwnTurn, own_turn}
 use Rattle.dsm_net.specs.Messages.{keeper_of, with_carry}
 use Rattle.dsm_net.specs.Grants.{grant_message, is_of}
-use Rattle.dsm_net.specs.Effects.{Effect, counts, with_request, with_release, effect_of, effect_of_body, effect_of_message, body_of, processor_after, printed_by, effect_of_telling_to, effect_of_telling, effect_of_turn}
+use Rattle.dsm_net.specs.Openings.{opening_message, is_to, openings_now}
+use Rattle.dsm_net.specs.Effects.{Effect, counts, with_request, with_release, with_arrived, effect_of, effect_of_body, effect_of_message, body_of, processor_after, printed_by, effect_of_telling_to, effect_of_telling, effect_of_turn}
 use Rattle.dsm_net.specs.Net.{Net, start_net}
 use Rattle.dsm_net.specs.Units.{Outcome, Made, with_letter, with_message, with_message_to, with_messages, with_lines_out, with_processor, with_effect, step_with, step_of, delivery_of, unit_of}
 use Rattle.dsm_net.specs.Fits.{Done, FitsUnits, with_unit, run_of}
@@ -51,10 +53,20 @@ grants_have_none : {S : Type 0} (setup : Setup) (me : ℕ) (s : Processor S) (lo
 grants_have_none setup me s lock [] e = tt
 grants_have_none setup me s lock (one ∷ ones) e = (e, grants_have_none setup me s lock ones e)
 
+openings_have_none : {S : Type 0} (me : ℕ) (s : Processor S) (ones : List Opening) → s.tail.lines ≡ [] → AllByRecursion HasNoLines (map (opening_message me s) ones)
+openings_have_none me s [] e = tt
+openings_have_none me s (one ∷ ones) e = (e, openings_have_none me s ones e)
+
 module _ {S : Type 0} (setup : Setup) (me : ℕ) (s : Processor S) (e : s.tail.lines ≡ []) (from turn : ℕ) where
   counted_puts : (body : Body) → PutsOut [] (effect_of setup me s from turn body)
   counted_puts (Body.Req lock mode own) = record { carried = refl; sends = grants_have_none setup me (with_request s from turn lock mode own) lock (filter (λ one. not (is_of me one)) (grants_of ((with_request s from turn lock mode own).locks lock.0))) e; outs_are = refl; tail = e }
   counted_puts (Body.Release lock mode version lines) = record { carried = refl; sends = grants_have_none setup me (with_release setup s from turn lock mode version lines) lock (filter (λ one. not (is_of me one)) (grants_of ((with_release setup s from turn lock mode version lines).locks lock.0))) e; outs_are = refl; tail = e }
+  counted_puts (Body.Arrive bar epoch lines) = record {
+    carried = refl;
+    sends = openings_have_none me (with_arrived s from turn bar lines) (filter (λ one. not (is_to me one)) (openings_now setup (with_arrived s from turn bar lines) bar)) e;
+    outs_are = refl;
+    tail = e;
+  }
   counted_puts _ = record { carried = refl; sends = tt; outs_are = refl; tail = e }
 
   body_puts : (body : Body) → PutsOut [] (effect_of_body setup me s from turn body)

@@ -1,12 +1,14 @@
 -- What a turn tells is true: a request has the version of the own copy, and a release the lines that were stored to in the hold.
 use Rattle.std.specs.Prelude.{◌≡◌, ℕ, suc, ◌+◌, ◌-◌, ◌<◌, ◌≤◌, Bool, true, false, ◌&&◌, ◌||◌, nat_lt, nat_le, List, [], ◌∷◌, length, filter, map, Option, Some, None, is_some}
 use Rattle.std.proofs.Common.{arith, refl, sym, ap, ◌∙◌, subst}
+use Rattle.dsm_base.specs.declared.names.Bar.{Bar}
 use Rattle.dsm_base.specs.declared.names.Lock.{Lock}
 use Rattle.dsm_base.specs.declared.names.Mode.{Mode}
 use Rattle.dsm_base.specs.declared.label.Label.{Label}
 use Rattle.dsm_base.specs.declared.setup.Object.{Object}
 use Rattle.dsm_base.specs.declared.setup.Setup.{Setup}
-use Rattle.dsm_base.specs.Access.{is_exclusive}
+use Rattle.dsm_base.specs.Family.{update}
+use Rattle.dsm_base.specs.Access.{piece_of, is_exclusive}
 use Rattle.dsm_base.specs.Threads.{Semantics}
 use Rattle.dsm_base.specs.Plain.{PlainState, Turn, IsPlainTurn, after_run, labels_of}
 use Rattle.dsm_lines.specs.declared.list.Line.{Line}
@@ -16,11 +18,13 @@ use Rattle.dsm_lines.specs.Places.{lines_of}
 use Rattle.dsm_net.specs.Processor.{Own}
 use Rattle.dsm_net.specs.Turns.{dirty_lines}
 use Rattle.dsm_net.specs.Effects.{release_of, body_of}
-use Rattle.dsm_laws_runs.specs.OwnPart.{own_versions_of}
+use Rattle.dsm_laws_runs.specs.OwnPart.{arrived_of, crossed_of, own_versions_of}
 use Rattle.dsm_laws_runs.specs.Versions.{AllAskFirst, IsCellOf, SameAt, makes_version, memory_at}
-use Rattle.dsm_laws_runs.specs.Newer.{stores_to, is_newer}
+use Rattle.dsm_laws_runs.specs.Barriers.{is_owned, stored_by, until_arrival, memory_in}
+use Rattle.dsm_laws_runs.specs.Newer.{stores_to, is_newer, is_stored_in}
 use Rattle.dsm_laws_runs.specs.Copies.{CopyAgrees, newest_copy}
-use Rattle.dsm_laws_runs.proofs.OwnPart.{own_held, labels_mine}
+use Rattle.dsm_laws_runs.proofs.OwnPart.{own_held, own_arrived, own_crossed, labels_mine}
+use Rattle.dsm_laws_runs.proofs.Barriers.{until_now, settled_at, owned_memory}
 use Rattle.dsm_laws_runs.proofs.Versions.{version_step, version_rises}
 use Rattle.dsm_laws_runs.proofs.Memory.{memory_at_made}
 use Rattle.dsm_laws_runs.proofs.OwnVersions.{IsOfLock, has_version}
@@ -30,7 +34,9 @@ use Rattle.dsm_laws_protocol.specs.Steps.{Step, turns_of}
 use Rattle.dsm_laws_protocol.specs.Worlds.{World}
 use Rattle.dsm_laws_protocol.proofs.Courses.{upto_grown, upto_all}
 use Rattle.dsm_laws_history.specs.NewerLines.{line_at, lines_between, version_before, IsTrue}
-use Rattle.dsm_laws_history.proofs.Lines.{lines_same}
+use Rattle.dsm_laws_history.proofs.Lines.{of_object, lines_same}
+use Rattle.dsm_laws_history.proofs.BarrierLines.{object_bound, owned_owner, stored_owned, bar_lines_same}
+use Rattle.dsm_laws_history.proofs.BarrierMarks.{bar_marks}
 use Rattle.dsm_laws_history.proofs.Marks.{AreMarks, marks_of}
 use Rattle.dsm_laws_history.proofs.OwnParts.{IsOwnPart}
 use Rattle.dsm_laws_history.proofs.Effects.{IsToldTrue}
@@ -186,7 +192,65 @@ module _ {S : Type 0} (setup : Setup) (first : ℕ → S) (threads : Semantics S
       is_version = versions_are lock.0 ∙ subst (λ l. own_versions_of labels lock.0 ≡ own_versions_of (l ∷ labels) lock.0) (sym asks) refl ∙ sym (before_next lock.0);
     }
 
+    -- it comes to a barrier
+    module _ (bar : Bar) (comes : label ≡ Label.Arrive bar) where
+      abbrev epoch : ℕ
+      epoch = own.crossed bar.0
+
+      epoch_is : epoch ≡ crossed_of labels bar.0
+      epoch_is = ap (λ f. f bar.0) part.crossed
+
+      in_step : arrived_of labels bar.0 ≡ crossed_of labels bar.0
+      in_step = ap (λ f. f bar.0) (sym (own_arrived first threads run p))
+          ∙ settled_at setup first threads ask_first bar.0 run is.is_run p lt label turn.is_label (λ other into e. (let k : Label.Arrive bar ≡ Label.Cross other into = sym comes ∙ e in cc))
+          ∙ ap (λ f. f bar.0) (own_crossed first threads run p)
+
+      labels_come : labels_of p now ≡ Label.Arrive bar ∷ labels
+      labels_come = labels_now ∙ ap (λ l. l ∷ labels) comes
+
+      come_once : (f : ℕ → ℕ) (n : ℕ) → update f n (f n + 1) n ≡ f n + 1
+      come_once f n = grind arith
+
+      arrived_now : arrived_of (labels_of p now) bar.0 ≡ epoch + 1
+      arrived_now = ap (λ ls. arrived_of ls bar.0) labels_come ∙ come_once (arrived_of labels) bar.0 ∙ ap (λ n. n + 1) (in_step ∙ sym epoch_is)
+
+      bar_dirty : (cell : ℕ) → of_object (Object.Bar bar) (piece_of setup.bindings cell) ≡ true →
+          own.dirty (line_at setup.bindings cell) ≡ is_stored_in (line_at setup.bindings) setup bar.0 p epoch (labels_of p now) (line_at setup.bindings cell)
+      bar_dirty cell cell_is =
+          ap (λ f. f (line_at setup.bindings cell)) part.dirty
+          ∙ bar_marks setup first threads ask_first bar cell cell_is run is.is_run p
+          ∙ rw (not_waiting (arrived_of labels bar.0) (crossed_of labels bar.0) in_step) refl
+          ∙ ap (λ n. is_stored_in (line_at setup.bindings) setup bar.0 p n labels (line_at setup.bindings cell)) (sym epoch_is)
+          ∙ ap (λ ls. is_stored_in (line_at setup.bindings) setup bar.0 p epoch ls (line_at setup.bindings cell)) (sym labels_come)
+        where
+          not_waiting : (n m : ℕ) → n ≡ m → nat_lt m n ≡ false
+          not_waiting n m e = grind arith
+
+      bar_values : (cell : ℕ) → is_owned bar.0 p (piece_of setup.bindings cell) ≡ true → own.copy cell ≡ memory_in setup (λ q. labels_of q now) bar.0 (epoch + 1) cell
+      bar_values cell owned =
+          ap (λ f. f cell) (is.copies p lt).is_copy
+          ∙ copy.at_barriers.own bar.0 cell owned
+          ∙ owned_memory setup first threads bar.0 p cell owned run is.is_run
+          ∙ sym (ap (λ owner. stored_by (until_arrival bar.0 (epoch + 1) (labels_of owner now)) cell) (owned_owner bar.0 p (piece_of setup.bindings cell) owned)
+          ∙ ap (λ ls. stored_by (until_arrival bar.0 (epoch + 1) ls) cell) labels_come
+          ∙ ap (λ ls. stored_by ls cell) (until_now bar.0 (epoch + 1) (Label.Arrive bar) labels (let k = in_step ∙ sym epoch_is in omega arith)))
+
+      arrive_told : (to : ℕ) → IsTrue setup first threads now p to (own.turns + 1) (Body.Arrive bar epoch (dirty_lines setup own (Object.Bar bar)))
+      arrive_told to = record {
+        in_course = let k : own.turns ≡ length labels = part.turns in let n = count_now in omega arith;
+        is_epoch = epoch_is ∙ sym in_step ∙ ap (λ ls. arrived_of ls bar.0) (sym (ap (upto (own.turns + 1 - 1)) labels_now ∙ before_it));
+        is_arrival = record {
+          has_come = let k = arrived_now in omega arith;
+          are_lines = bar_lines_same setup bar own.dirty (is_stored_in (line_at setup.bindings) setup bar.0 p epoch (labels_of p now)) own.copy (memory_in setup (λ q. labels_of q now) bar.0 (epoch + 1)) bar_dirty
+              (λ cell cell_is stored. bar_values cell (stored_owned setup bar.0 p epoch cell (labels_of p now) (object_bound (Object.Bar bar) (piece_of setup.bindings cell) cell_is) stored));
+        };
+      }
+        where
+          before_it : upto (own.turns + 1 - 1) (label ∷ labels) ≡ labels
+          before_it = let k : own.turns ≡ length labels = part.turns in upto_grown (own.turns + 1 - 1) label labels (omega arith) ∙ upto_all (own.turns + 1 - 1) labels (omega arith)
+
     pub turn_told : (l : Label) → label ≡ l → IsToldTrue setup first threads now p (own.turns + 1) (body_of setup own l)
     turn_told (Label.Ask lock mode) e = ask_told lock mode e
     turn_told (Label.Give lock) e = give_told lock e (own.held lock.0) refl
+    turn_told (Label.Arrive bar) e = arrive_told bar e
     turn_told _ e = tt

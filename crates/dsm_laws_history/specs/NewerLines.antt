@@ -1,5 +1,5 @@
--- Which lines turns, messages and homes have, by the history: those that were stored to after the version of who takes them, and no other.
-use Rattle.std.specs.Prelude.{◌≡◌, ℕ, ◌+◌, ◌-◌, ◌≤◌, List, [], ◌∷◌, length, Some, option_map, unwrap_or}
+-- Which lines turns, messages and homes have, by the history: those that were stored to after the version of who takes them, or in the epoch that ends, and no other.
+use Rattle.std.specs.Prelude.{◌≡◌, ℕ, ◌+◌, ◌-◌, ◌<◌, ◌≤◌, List, [], ◌∷◌, length, Some, option_map, unwrap_or}
 use Rattle.std.specs.List.{AllByRecursion}
 use Rattle.dsm_base.specs.declared.label.Label.{Label}
 use Rattle.dsm_base.specs.declared.setup.Object.{Object}
@@ -13,14 +13,16 @@ use Rattle.dsm_lines.specs.Copies.{lines_where}
 use Rattle.dsm_lines.specs.Places.{lines, place_of}
 use Rattle.dsm_msg.specs.declared.message.Body.{Body}
 use Rattle.dsm_home.specs.LockStates.{version_made}
+use Rattle.dsm_barrier.specs.BarrierStates.{lines_of_others}
 use Rattle.dsm_net.specs.declared.trace.Letter.{Letter}
 use Rattle.dsm_net.specs.declared.trace.Group.{Group}
 use Rattle.dsm_net.specs.Processor.{HomeLines, Processor}
 use Rattle.dsm_net.specs.Net.{Net}
 use Rattle.dsm_net.specs.Story.{history}
-use Rattle.dsm_laws_runs.specs.OwnPart.{own_versions_of}
+use Rattle.dsm_laws_runs.specs.OwnPart.{arrived_of, own_versions_of}
 use Rattle.dsm_laws_runs.specs.Versions.{IsCellOf, SameAt, memory_at}
-use Rattle.dsm_laws_runs.specs.Newer.{is_newer, stamp_of}
+use Rattle.dsm_laws_runs.specs.Barriers.{memory_in}
+use Rattle.dsm_laws_runs.specs.Newer.{is_newer, stamp_of, is_stored_in}
 use Rattle.dsm_laws_protocol.specs.Courses.{upto}
 use Rattle.dsm_laws_protocol.specs.Steps.{Step, steps_of, turns_of}
 
@@ -34,12 +36,23 @@ lines_between setup first threads run lock from to =
     lines_where setup.bindings (is_newer (line_at setup.bindings) setup first threads run lock from to)
     (memory_at first threads run lock to) (Object.Lock record { 0 = lock })
 
+-- the lines of a barrier to which p stored in an epoch, as they were when it came there at the end of that epoch
+abbrev pub lines_of_arrival : Setup → List Turn → ℕ → ℕ → ℕ → List Line
+lines_of_arrival setup run bar epoch p =
+    lines_where setup.bindings (is_stored_in (line_at setup.bindings) setup bar p epoch (labels_of p run))
+    (memory_in setup (λ q. labels_of q run) bar (epoch + 1)) (Object.Bar record { 0 = bar })
+
+-- what p gets at a barrier for an epoch: the lines with which the others came there at the end of the epoch before, in order of their numbers
+abbrev pub lines_of_crossing : Setup → List Turn → ℕ → ℕ → ℕ → List Line
+lines_of_crossing setup run bar epoch p = lines_of_others (lines_of_arrival setup run bar (epoch - 1)) setup.procs p
+
 -- Turns.
 
--- the lines of a turn that p makes after a run: a take brings those that are newer than p's copy
+-- the lines of a turn that p makes after a run: a take brings those that are newer than p's copy, a crossing those of the others
 abbrev pub Brings : {S : Type 0} → Setup → (ℕ → S) → Semantics S → List Turn → ℕ → Label → List Line → Type 0
 Brings setup first threads run p (Label.Take lock mode version) lines =
     lines ≡ lines_between setup first threads run lock.0 (own_versions_of (labels_of p run) lock.0) version
+Brings setup first threads run p (Label.Cross bar epoch) lines = lines ≡ lines_of_crossing setup run bar.0 epoch p
 Brings setup first threads run p _ lines = lines ≡ []
 
 -- each turn brings its lines and no other
@@ -66,8 +79,26 @@ pub record AreNewer {S : Type 0} (setup : Setup) (first : ℕ → S) (threads : 
   pub is_made : version ≤ (after_run first threads run).versions lock
   pub are_lines : lines ≡ lines_between setup first threads run lock (version_before run p turn lock) version
 
+-- the lines with which p came to a barrier at the end of an epoch
+pub record IsArrival (setup : Setup) (run : List Turn) (p bar epoch : ℕ) (lines : List Line) : Type 0 where
+  pub has_come : epoch < arrived_of (labels_of p run) bar
+  pub are_lines : lines ≡ lines_of_arrival setup run bar epoch p
+
+-- those of its arrival in this turn, with which it ends as many epochs as it had ended before
+pub record IsArrivalIn (setup : Setup) (run : List Turn) (p turn bar epoch : ℕ) (lines : List Line) : Type 0 where
+  pub in_course : turn ≤ length (labels_of p run)
+  pub is_epoch : epoch ≡ arrived_of (upto (turn - 1) (labels_of p run)) bar
+  pub is_arrival : IsArrival setup run p bar epoch lines
+
+-- the lines with which p may cross a barrier into an epoch, for which all have come
+pub record IsOpening (setup : Setup) (run : List Turn) (p bar epoch : ℕ) (lines : List Line) : Type 0 where
+  pub is_later : 0 < epoch
+  pub all_came : (q : ℕ) → q < setup.procs → epoch ≤ arrived_of (labels_of q run) bar
+  pub are_lines : lines ≡ lines_of_crossing setup run bar epoch p
+
 -- what one processor tells another in a turn: a request has the version of the sender's copy, a release the version that its hold leaves and the
--- lines that were stored to in it, and a grant the lines that are newer than the receiver's copy
+-- lines that were stored to in it, and a grant the lines that are newer than the receiver's copy; an arrival has the lines that were stored to in the epoch
+-- that it ends, and an opening those of all but the receiver
 abbrev pub IsTrue : {S : Type 0} → Setup → (ℕ → S) → Semantics S → List Turn → ℕ → ℕ → ℕ → Body → Type 0
 IsTrue setup first threads run from to turn (Body.Req lock mode version) = IsVersion run from (turn + 1) lock.0 version
 IsTrue setup first threads run from to turn (Body.Release lock mode version lines) =
@@ -75,6 +106,8 @@ IsTrue setup first threads run from to turn (Body.Release lock mode version line
     × AreNewer setup first threads run from turn lock.0 version lines
 IsTrue setup first threads run from to turn (Body.Grant lock mode take version lines) =
     AreNewer setup first threads run to take lock.0 version lines
+IsTrue setup first threads run from to turn (Body.Arrive bar epoch lines) = IsArrivalIn setup run from turn bar.0 epoch lines
+IsTrue setup first threads run from to turn (Body.Opened bar epoch lines) = IsOpening setup run to bar.0 epoch lines
 IsTrue setup first threads run from to turn _ = Unit {0}
 
 -- Homes.

@@ -11,10 +11,12 @@ ghost use Rattle.dsm_net.specs.Fits.{FitsUnits, run_of};
 ghost use Rattle.dsm_net.specs.Story.{history};
 ghost use Rattle.dsm_laws_runs.specs.Versions.{AllAskFirst};
 ghost use Rattle.dsm_laws_protocol.specs.Holding.{AreWithin};
+ghost use Rattle.dsm_laws_history.specs.BarrierLines.{HasBarrierLines};
 ghost use Rattle.dsm_laws_history.specs.Desks.{AllHaveHandled};
 ghost use Rattle.dsm_laws_history.specs.Granted.{AllTakesAreGranted};
 ghost use Rattle.dsm_laws_history.specs.NewerLines.{HasNewerLines};
 ghost use Rattle.dsm_laws_history.specs.OneMemory.{IsOneMemory};
+ghost use Rattle.dsm_laws_history.specs.Openings.{OpenWhenAllCame, OpeningsAreInPlace};
 ghost use Rattle.dsm_laws_history.specs.Order.{AllWaitInOrder};
 ghost use Rattle.dsm_laws_history.specs.Output.{output_of};
 
@@ -65,6 +67,37 @@ pub fn desks_in_order<T: Task>()
     ensures { (setup : Setup) (first : ℕ → T.State) (acts : List Act) (trace : List Group) →
         (fits : FitsUnits setup first T.kind.semantics acts trace) →
         AllWaitInOrder setup trace (run_of setup first T.kind.semantics fits.done).net }
+{}
+
+/// A crossing brings exactly the lines with which the other processors came to the barrier at the end of
+/// the epoch before, in order of their numbers: those to which they stored in it, as they were then. So
+/// do the arrival and the opening before it, and what a manager keeps of arrivals.
+pub fn barrier_lines<T: Task>()
+    ensures { (setup : Setup) (first : ℕ → T.State) (acts : List Act) (trace : List Group) →
+        AllAskFirst setup first T.kind.semantics →
+        (fits : FitsUnits setup first T.kind.semantics acts trace) → AreWithin setup acts →
+        HasBarrierLines setup first T.kind.semantics
+        (run_of setup first T.kind.semantics fits.done).net trace }
+{}
+
+/// What a manager knows of its barriers is what each processor has done up to a turn of it: each arrival
+/// in these turns has counted, and the barrier has opened as often as all have come in them.
+pub fn opens_when_all_came<T: Task>()
+    ensures { (setup : Setup) (first : ℕ → T.State) (acts : List Act) (trace : List Group) →
+        AllAskFirst setup first T.kind.semantics →
+        (fits : FitsUnits setup first T.kind.semantics acts trace) → AreWithin setup acts →
+        OpenWhenAllCame setup (history trace)
+        (run_of setup first T.kind.semantics fits.done).net }
+{}
+
+/// A processor has crossed a barrier no more often than its manager has opened it; where the manager has
+/// opened it once more, that opening is in the processor's mailbox, or under way to it.
+pub fn openings_are_in_place<T: Task>()
+    ensures { (setup : Setup) (first : ℕ → T.State) (acts : List Act) (trace : List Group) →
+        AllAskFirst setup first T.kind.semantics →
+        (fits : FitsUnits setup first T.kind.semantics acts trace) → AreWithin setup acts →
+        OpeningsAreInPlace setup (history trace)
+        (run_of setup first T.kind.semantics fits.done).net }
 {}
 
 /// A take brings exactly the lines of its lock that were stored to in the holds that made the versions

@@ -1,10 +1,11 @@
 -- A message that is delivered: what is reached then.
-use Rattle.std.specs.Prelude.{◌≡◌, ℕ, ◌≤◌, ◌<◌, Bool, true, false, ◌==◌, List, [], ◌∷◌, ◌++◌, length, Some, None}
+use Rattle.std.specs.Prelude.{◌≡◌, ℕ, ◌≤◌, ◌<◌, Bool, true, false, ◌==◌, List, [], ◌∷◌, ◌++◌, length, filter, Some, None}
 use Rattle.std.proofs.Common.{arith, refl, sym, ap, ◌∙◌, subst, inl, inr, append-nil, true≢false}
 use Rattle.std.proofs.Math.Path.{fun_ext}
 use Rattle.std.proofs.lemmas.Bool.Decides.{eqb_tells}
 use Rattle.std.proofs.lemmas.List.Elements.{filter-append}
 use Rattle.dsm_base.specs.declared.names.Proc.{Proc}
+use Rattle.dsm_base.specs.declared.names.Bar.{Bar}
 use Rattle.dsm_base.specs.declared.names.Lock.{Lock}
 use Rattle.dsm_base.specs.declared.names.Mode.{Mode}
 use Rattle.dsm_base.specs.declared.label.Label.{Label}
@@ -20,20 +21,23 @@ use Rattle.dsm_home.specs.LockStates.{version_made}
 use Rattle.dsm_net.specs.Processor.{Own, Peer, Processor}
 use Rattle.dsm_net.specs.Messages.{home_of, with_carry}
 use Rattle.dsm_net.specs.Grants.{home_after_grants, grant_messages}
-use Rattle.dsm_net.specs.Effects.{may_bring, counts, with_last, with_request, with_release, effect_of_body}
+use Rattle.dsm_net.specs.Openings.{manager_after_openings, opening_messages}
+use Rattle.dsm_net.specs.Effects.{may_bring, counts, with_last, with_request, with_release, with_arrived, with_opening, effect_of_body}
 use Rattle.dsm_laws_protocol.specs.Courses.{Move, asks, gives, still, move_of, moves_of, claim_of, made_by}
-use Rattle.dsm_laws_protocol.specs.Due.{Word, asked, gave, have_of, word_for}
+use Rattle.dsm_laws_protocol.specs.Due.{Word, asked, gave, arrived, have_of, word_for}
 use Rattle.dsm_laws_protocol.specs.Flows.{words_in, IsFlow}
-use Rattle.dsm_laws_protocol.specs.Worlds.{World, grants_in, mail_for, AreLawful}
+use Rattle.dsm_laws_protocol.specs.Worlds.{World, grants_in, grants_said, mail_for, AreLawful}
 use Rattle.dsm_laws_protocol.proofs.Families.{if_same, same_number}
+use Rattle.dsm_laws_protocol.proofs.Channels.{goes}
 use Rattle.dsm_laws_protocol.proofs.Granting.{none_to_me}
 use Rattle.dsm_laws_protocol.proofs.Homes.{IsNextMove, next_as}
-use Rattle.dsm_laws_protocol.proofs.Quiet.{ask_label, IsGive, give_word, next_move}
+use Rattle.dsm_laws_protocol.proofs.Quiet.{ask_label, IsGive, give_word, came_label, next_move}
 use Rattle.dsm_laws_protocol.proofs.Flows.{AreQuiet, IsTold, told_came, IsPassed, other_came, order_within}
-use Rattle.dsm_laws_protocol.proofs.Worlds.{with_new, without_oldest, with_handled, IsSameUpto, raised, granted_lawful}
-use Rattle.dsm_laws_protocol.proofs.Journeys.{came_lawful}
+use Rattle.dsm_laws_protocol.proofs.Worlds.{with_new, without_oldest, with_handled, IsSameUpto, raised_at, raised, granted_lawful}
+use Rattle.dsm_laws_protocol.proofs.Journeys.{came_lawful, sent_lawful}
 use Rattle.dsm_laws_protocol.proofs.Handling.{IsDue, ask_counts, ask_lawful, IsReturn, give_counts, give_lawful}
 use Rattle.dsm_laws_protocol.proofs.Reached.{AreSent, IsReached, after_delivery, delivery_reached, grants_quiet, grants_sent}
+use Rattle.dsm_laws_protocol.proofs.Opening.{openings_quiet, openings_sent, no_opening_to_me, no_grants_opened}
 
 -- the last of several changes of one member is the one that counts
 pub last_change : {A : Type 0} (f : ℕ → A) (k : ℕ) (a b : A) (r : ℕ) → update (update f k a) k b r ≡ update f k b r
@@ -276,6 +280,97 @@ module _ {S : Type 0} (setup : Setup) (first : ℕ → S) (threads : Semantics S
     mail = λ lock. sym (ap (λ gs. mail_for lock (w.processors q).mail.grants ++ gs) (none lock) ∙ append-nil (mail_for lock (w.processors q).mail.grants));
   }
 
+  -- An arrival: the receiver is the manager of its barrier, and no lock is touched.
+
+  pub record IsArriving (q : ℕ) (now : Processor S) (sends : List Msg) : Type 0 where
+    pub own : now.own ≡ (w.processors q).own
+    pub last_now : (now.peers p).last ≤ carry.turn
+    pub last_same : (a : ℕ) → (a == p) ≡ false → (now.peers a).last ≤ w.handled q a
+    pub locks : now.locks ≡ (w.processors q).locks
+    pub mail : now.mail.grants ≡ (w.processors q).mail.grants
+    pub quiet : AreQuiet (length (w.courses q)) sends
+    pub sent : AreSent setup q sends
+    pub no_self : filter (goes q q) sends ≡ []
+    pub no_grants : (lock a b : ℕ) → grants_said lock (filter (goes a b) sends) ≡ []
+
+  abbrev ArrivalTold : ℕ → Proc → Proc → Bar → ℕ → List Line → Type 0
+  ArrivalTold q from to bar epoch lines = IsTold setup q (w.courses p) (w.handled q p) record { from = from; to = to; carry = carry; body = Body.Arrive bar epoch lines } (arrived bar) others
+
+  arrival_told : (q : ℕ) (from to : Proc) (bar : Bar) (epoch : ℕ) (lines : List Line) → (p == q) ≡ false → w.channels p q ≡ record { from = from; to = to; carry = carry; body = Body.Arrive bar epoch lines } ∷ others →
+      ArrivalTold q from to bar epoch lines
+  arrival_told q from to bar epoch lines ne oldest =
+      told_came setup q (w.courses p) (w.handled q p) record { from = from; to = to; carry = carry; body = Body.Arrive bar epoch lines } (arrived bar) others
+      (subst (IsFlow setup q (w.courses p) (w.handled q p)) oldest (h.flows p q ne)) refl
+
+  arrived_reached : (q : ℕ) (from to : Proc) (bar : Bar) (epoch : ℕ) (lines : List Line) (now : Processor S) (sends : List Msg) → (p == q) ≡ false →
+      w.channels p q ≡ record { from = from; to = to; carry = carry; body = Body.Arrive bar epoch lines } ∷ others → ArrivalTold q from to bar epoch lines → IsArriving q now sends → IsReached setup first threads (after q now sends)
+  arrived_reached q from to bar epoch lines now sends ne oldest told is =
+      let msg : Msg = record { from = from; to = to; carry = carry; body = Body.Arrive bar epoch lines } in
+      let sent : AreSent setup p (msg ∷ others) = subst (AreSent setup p) oldest (h.sent p q) in
+      let label : told.first.label ≡ Label.Arrive bar = came_label setup q told.first.before told.first.label bar told.first.is_body in
+      let later : w.handled q p < carry.turn = told.first.later in
+      let taken : World S = without_oldest (with_new w q now) p q others in
+      let lawful : AreLawful setup taken = came_lawful setup w p q msg others now record {
+        oldest = oldest;
+        locks = is.locks;
+        mail = λ lock. ap (mail_for lock) is.mail ∙ sym (append-nil (mail_for lock (w.processors q).mail.grants));
+        from_home = sent.0.from_home;
+      } h.lawful in
+      let handled : AreLawful setup (with_handled taken q p carry.turn) = λ lock. raised_at setup taken q p carry.turn lock
+      (λ i. still_same (moves_of lock (w.courses p)) (w.handled q p) carry.turn
+      (next_as (next_move setup q lock (w.handled q p) (rw i (same_number q)) (w.courses p) _ _ told.first) (ap (move_of lock) label))) (lawful lock) in
+      delivery_reached setup first threads w h p q carry.turn others now sends record {
+        apart = ne;
+        own = is.own;
+        later = omega arith;
+        last_now = is.last_now;
+        last_same = is.last_same;
+        flow = told.flow;
+        left = sent.1;
+        quiet = is.quiet;
+        sent = is.sent;
+        no_self = is.no_self;
+        lawful = sent_lawful setup (with_handled taken q p carry.turn) sends is.no_grants handled;
+      }
+
+  arrive_reached : (q : ℕ) (from to : Proc) (bar : Bar) (epoch : ℕ) (lines : List Line) → (p == q) ≡ false → w.channels p q ≡ record { from = from; to = to; carry = carry; body = Body.Arrive bar epoch lines } ∷ others →
+      IsReached setup first threads (after q (effect_of_body setup q (heard q) p carry.turn (Body.Arrive bar epoch lines)).processor (effect_of_body setup q (heard q) p carry.turn (Body.Arrive bar epoch lines)).sends)
+  arrive_reached q from to bar epoch lines ne oldest = go (counts (heard q) p carry.turn (Body.Arrive bar epoch lines)) refl
+    where
+      told : ArrivalTold q from to bar epoch lines
+      told = arrival_told q from to bar epoch lines ne oldest
+
+      now : Processor S
+      now = with_arrived (heard q) p carry.turn bar lines
+
+      last_before : (a : ℕ) → ((heard q).peers a).last ≤ w.handled q a
+      last_before a = let k = same_last q a in let l = h.last a q in omega arith
+
+      go : (b : Bool) → counts (heard q) p carry.turn (Body.Arrive bar epoch lines) ≡ b →
+          IsReached setup first threads (after q (effect_of_body setup q (heard q) p carry.turn (Body.Arrive bar epoch lines)).processor (effect_of_body setup q (heard q) p carry.turn (Body.Arrive bar epoch lines)).sends)
+      go true e = rw e (arrived_reached q from to bar epoch lines (manager_after_openings setup q now bar) (opening_messages setup q now bar) ne oldest told record {
+        own = refl;
+        last_now = let k : (now.peers p).last ≡ carry.turn = ap (λ (x : Peer). x.last) (if_same p (record ((heard q).peers p) { last = carry.turn }) ((heard q).peers p)) in omega arith;
+        last_same = λ a there. (let k : (now.peers a).last ≡ ((heard q).peers a).last = rw there refl in let l = last_before a in omega arith);
+        locks = refl;
+        mail = refl;
+        quiet = subst (λ n. AreQuiet n (opening_messages setup q now bar)) (h.owns q).turns (openings_quiet setup q now bar);
+        sent = openings_sent setup q now bar;
+        no_self = no_opening_to_me setup q now bar;
+        no_grants = no_grants_opened setup q now bar;
+      })
+      go false e = rw e (arrived_reached q from to bar epoch lines (heard q) [] ne oldest told record {
+        own = refl;
+        last_now = let k = last_before p in let l : w.handled q p < carry.turn = told.first.later in omega arith;
+        last_same = λ a there. last_before a;
+        locks = refl;
+        mail = refl;
+        quiet = tt;
+        sent = tt;
+        no_self = refl;
+        no_grants = λ lock a b. refl;
+      })
+
   -- any message
   pub delivered_reached : (q : ℕ) (from to : Proc) (body : Body) → (p == q) ≡ false → w.channels p q ≡ record { from = from; to = to; carry = carry; body = body } ∷ others →
       IsReached setup first threads (after q (effect_of_body setup q (heard q) p carry.turn body).processor (effect_of_body setup q (heard q) p carry.turn body).sends)
@@ -288,10 +383,12 @@ module _ {S : Type 0} (setup : Setup) (first : ℕ → S) (threads : Semantics S
         locks = refl;
         mail = λ other. filter-append (λ (grant : MailGrant). grant.lock.0 == other) (w.processors q).mail.grants (record { turn = take; lock = lock; mode = mode; version = version; lines = lines } ∷ []);
       }
-  delivered_reached q from to (Body.Arrive bar epoch lines) ne oldest = go (counts (heard q) p carry.turn (Body.Arrive bar epoch lines)) refl
-    where
-      go : (b : Bool) → counts (heard q) p carry.turn (Body.Arrive bar epoch lines) ≡ b →
-          IsReached setup first threads (after q (effect_of_body setup q (heard q) p carry.turn (Body.Arrive bar epoch lines)).processor (effect_of_body setup q (heard q) p carry.turn (Body.Arrive bar epoch lines)).sends)
-      go true e = rw e (taken_reached q from to (Body.Arrive bar epoch lines) (heard q) ne oldest refl (heard_taking q (Body.Arrive bar epoch lines) (λ lock. refl)))
-      go false e = rw e (taken_reached q from to (Body.Arrive bar epoch lines) (heard q) ne oldest refl (heard_taking q (Body.Arrive bar epoch lines) (λ lock. refl)))
+  delivered_reached q from to (Body.Arrive bar epoch lines) ne oldest = arrive_reached q from to bar epoch lines ne oldest
+  delivered_reached q from to (Body.Opened bar epoch lines) ne oldest =
+      taken_reached q from to (Body.Opened bar epoch lines) (with_opening (heard q) bar epoch lines) ne oldest refl record {
+        own = refl;
+        peers = refl;
+        locks = refl;
+        mail = λ lock. sym (append-nil (mail_for lock (w.processors q).mail.grants));
+      }
   delivered_reached q from to body ne oldest = taken_reached q from to body (heard q) ne oldest refl (heard_taking q body (λ lock. refl))

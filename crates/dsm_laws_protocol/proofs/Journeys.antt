@@ -33,6 +33,28 @@ sent_lawful setup w msgs none h lock =
       state = refl;
     } (h lock)
 
+-- A processor changes in nothing that is about locks.
+module _ {S : Type 0} (setup : Setup) (w : World S) (p : ℕ) (now : Processor S) (locks : now.locks ≡ (w.processors p).locks) (mail : now.mail.grants ≡ (w.processors p).mail.grants) where
+  module _ (lock : ℕ) where
+    same_grants : (q : ℕ) → (situation_at setup (with_new w p now) lock).grants q ≡ (situation_at setup w lock).grants q
+    same_grants q =
+        elim (eqb_tells q p) [
+          | inl (t, i) ↦ rw t (ap (λ grants. mail_for lock grants ++ grants_said lock (w.channels (home_of setup lock) q)) mail
+              ∙ ap (λ r. mail_for lock (w.processors r).mail.grants ++ grants_said lock (w.channels (home_of setup lock) q)) (sym i))
+          | inr (t, _) ↦ rw t refl
+        ]
+
+    same_state : (w.processors (home_of setup lock)).locks lock ≡ (update w.processors p now (home_of setup lock)).locks lock
+    same_state = elim (eqb_tells (home_of setup lock) p) [ inl (t, i) ↦ rw t (ap (λ r. (w.processors r).locks lock) i ∙ sym (ap (λ f. f lock) locks)) | inr (t, _) ↦ rw t refl ]
+
+  pub unchanged_lawful : AreLawful setup w → AreLawful setup (with_new w p now)
+  unchanged_lawful h lock = lawful_alike setup.procs (situation_at setup w lock) (situation_at setup (with_new w p now) lock) record {
+    moves = λ q. refl;
+    handled = λ q. refl;
+    grants = λ q. same_fresh (situation_at setup w lock) q _ (same_grants lock q);
+    state = same_state lock;
+  } (h lock)
+
 -- The oldest message from p comes.
 module _ {S : Type 0} (setup : Setup) (w : World S) (p to : ℕ) (msg : Msg) (others : List Msg) (now : Processor S) where
   pub record IsComing : Type 0 where

@@ -12,6 +12,7 @@ pub mod Journeys
 pub mod Kept
 pub mod Likeness
 pub mod Making
+pub mod Opening
 pub mod Own
 pub mod OwnParts
 pub mod Quiet

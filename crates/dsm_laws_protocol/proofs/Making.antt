@@ -4,21 +4,24 @@ use Rattle.std.proofs.Common.{arith, refl, sym, ap, ◌∙◌, subst, inl, inr, 
 use Rattle.std.proofs.Math.Path.{fun_ext}
 use Rattle.std.proofs.lemmas.Bool.Decides.{eqb_tells}
 use Rattle.std.proofs.lemmas.List.{length-map}
+use Rattle.dsm_base.specs.declared.names.Bar.{Bar}
 use Rattle.dsm_base.specs.declared.names.Lock.{Lock}
 use Rattle.dsm_base.specs.declared.names.Mode.{Mode}
 use Rattle.dsm_base.specs.declared.label.Label.{Label}
 use Rattle.dsm_base.specs.declared.setup.Setup.{Setup}
 use Rattle.dsm_base.specs.Family.{update}
 use Rattle.dsm_base.specs.Threads.{Semantics, AsksFirst}
+use Rattle.dsm_lines.specs.declared.list.Line.{Line}
 use Rattle.dsm_lines.specs.declared.of_objects.MailGrant.{MailGrant}
 use Rattle.dsm_msg.specs.declared.message.Body.{Body}
 use Rattle.dsm_msg.specs.declared.message.Msg.{Msg}
 use Rattle.dsm_net.specs.Processor.{Own, Peer, Processor}
 use Rattle.dsm_net.specs.Inputs.{is_grant_for}
 use Rattle.dsm_net.specs.Turns.{OwnTurn}
-use Rattle.dsm_net.specs.Messages.{home_of, message}
+use Rattle.dsm_net.specs.Messages.{home_of, manager_of, message}
 use Rattle.dsm_net.specs.Grants.{home_after_grants, grant_messages}
-use Rattle.dsm_net.specs.Effects.{with_last, with_request, effect_of_body, processor_after}
+use Rattle.dsm_net.specs.Openings.{manager_after_openings, opening_messages}
+use Rattle.dsm_net.specs.Effects.{counts, with_last, with_request, with_arrived, effect_of_body, processor_after}
 use Rattle.dsm_laws_protocol.specs.Courses.{upto, Move, asks, still, move_of, moves_of, claim_of, made_by, Follows, IsCourse}
 use Rattle.dsm_laws_protocol.specs.Due.{due, Word, word_for}
 use Rattle.dsm_laws_protocol.specs.Flows.{words_in, IsFlow}
@@ -30,12 +33,13 @@ use Rattle.dsm_laws_protocol.proofs.Channels.{goes}
 use Rattle.dsm_laws_protocol.proofs.Granting.{none_to_me}
 use Rattle.dsm_laws_protocol.proofs.Homes.{IsNextMove, next_as}
 use Rattle.dsm_laws_protocol.proofs.Flows.{AreQuiet, quiet_filter, turn_kept, turn_sent, others_sent}
-use Rattle.dsm_laws_protocol.proofs.Worlds.{with_new, with_label, with_handled, with_sent, IsSameUpto, raised, granted_lawful}
-use Rattle.dsm_laws_protocol.proofs.Journeys.{turned_lawful, sent_lawful}
+use Rattle.dsm_laws_protocol.proofs.Worlds.{with_new, with_label, with_handled, with_sent, IsSameUpto, raised_at, raised, granted_lawful}
+use Rattle.dsm_laws_protocol.proofs.Journeys.{turned_lawful, sent_lawful, unchanged_lawful}
 use Rattle.dsm_laws_protocol.proofs.Handling.{IsDue, ask_counts, ask_lawful}
 use Rattle.dsm_laws_protocol.proofs.Own.{IsOwn, IsOwnTurn, IsFoundFor, take_found, label_follows, own_goes_on}
-use Rattle.dsm_laws_protocol.proofs.Reached.{IsFit, IsReached, after_turn, turn_reached, grants_quiet, grants_sent}
-use Rattle.dsm_laws_protocol.proofs.Deliveries.{last_of_three, still_same}
+use Rattle.dsm_laws_protocol.proofs.Reached.{IsFit, AreSent, IsReached, after_turn, turn_reached, grants_quiet, grants_sent}
+use Rattle.dsm_laws_protocol.proofs.Opening.{openings_quiet, openings_sent, no_opening_to_me, no_grants_opened}
+use Rattle.dsm_laws_protocol.proofs.Deliveries.{last_change, last_of_three, still_same}
 
 module _ {S : Type 0} (setup : Setup) (first : ℕ → S) (threads : Semantics S) (w : World S) (h : IsReached setup first threads w) where
   -- a turn of p with this label leaves p so, before it tells anyone
@@ -238,3 +242,91 @@ module _ {S : Type 0} (setup : Setup) (first : ℕ → S) (threads : Semantics S
         peers = refl;
         lawful = ask_lawful setup w1 is.lawful home now.own.turns lock now mode own due;
       })))
+
+  -- A turn that tells p itself, which is a barrier's manager, that it has come there: no lock is touched.
+
+  pub record IsOwnArrival (p : ℕ) (now queued : Processor S) (sends : List Msg) : Type 0 where
+    pub own : queued.own ≡ now.own
+    pub last_own : (queued.peers p).last ≤ length (w.courses p) + 1
+    pub last_same : (a : ℕ) → (a == p) ≡ false → (queued.peers a).last ≤ w.handled p a
+    pub locks : queued.locks ≡ now.locks
+    pub mail : queued.mail.grants ≡ now.mail.grants
+    pub quiet : AreQuiet (suc (length (w.courses p))) sends
+    pub sent : AreSent setup p sends
+    pub no_self : filter (goes p p) sends ≡ []
+    pub no_grants : (lock a b : ℕ) → grants_said lock (filter (goes a b) sends) ≡ []
+
+  own_arrived : (p : ℕ) (bar : Bar) (now queued : Processor S) (sends : List Msg) → manager_of setup bar.0 ≡ p → IsMaking p (Label.Arrive bar) now → IsOwnArrival p now queued sends →
+      IsReached setup first threads (after_turn setup first threads w h p (Label.Arrive bar) queued sends)
+  own_arrived p bar now queued sends i is come = turn_reached setup first threads w h p (Label.Arrive bar) queued sends record {
+    is_processor = is.is_processor;
+    own = subst (λ own. IsOwn threads (first p) own (Label.Arrive bar ∷ w.courses p)) (sym come.own) is.own;
+    last_own = come.last_own;
+    last_same = come.last_same;
+    flow = λ b ne. others_sent setup b (Label.Arrive bar ∷ w.courses p) (w.handled b p) (filter (goes p b) sends) (w.channels p b)
+        (turn_kept setup b (w.courses p) (w.handled b p) (w.channels p b) (Label.Arrive bar) (h.flows p b ne) (rw (i, ne) refl))
+        (quiet_filter (goes p b) (suc (length (w.courses p))) sends come.quiet);
+    sent = come.sent;
+    no_self = come.no_self;
+    lawful = subst (λ f. AreLawful setup (record (after_turn setup first threads w h p (Label.Arrive bar) queued sends) { processors = f }))
+        (fun_ext (last_change w.processors p now queued)) (sent_lawful setup raised_world sends come.no_grants raised_now);
+  }
+    where
+      made : World S
+      made = own_made p (Label.Arrive bar) now
+
+      changed : World S
+      changed = with_new made p queued
+
+      raised_world : World S
+      raised_world = with_handled changed p p (length (w.courses p) + 1)
+
+      changed_now : AreLawful setup changed
+      changed_now = unchanged_lawful setup made p queued
+          (come.locks ∙ ap (λ (x : Processor S). x.locks) (sym (if_same p now (w.processors p))))
+          (come.mail ∙ ap (λ (x : Processor S). x.mail.grants) (sym (if_same p now (w.processors p)))) is.lawful
+
+      still_there : (lock : ℕ) → IsSameUpto (moves_of lock (changed.courses p)) (w.handled p p) (length (w.courses p) + 1)
+      still_there lock = subst (λ c. IsSameUpto (moves_of lock c) (w.handled p p) (length (w.courses p) + 1)) (sym (if_same p (Label.Arrive bar ∷ w.courses p) (w.courses p)))
+          (still_same (moves_of lock (Label.Arrive bar ∷ w.courses p)) (w.handled p p) (length (w.courses p) + 1) (own_next p (Label.Arrive bar) (length (w.courses p) + 1) lock (omega arith)))
+
+      raised_now : AreLawful setup raised_world
+      raised_now lock = raised_at setup changed p p (length (w.courses p) + 1) lock (λ home. still_there lock) (changed_now lock)
+
+  pub own_came : (p : ℕ) (bar : Bar) (now : Processor S) (epoch : ℕ) (lines : List Line) → manager_of setup bar.0 ≡ p → IsMaking p (Label.Arrive bar) now →
+      IsReached setup first threads (after_turn setup first threads w h p (Label.Arrive bar) (effect_of_body setup p now p now.own.turns (Body.Arrive bar epoch lines)).processor (effect_of_body setup p now p now.own.turns (Body.Arrive bar epoch lines)).sends)
+  own_came p bar now epoch lines i is = go (counts now p now.own.turns (Body.Arrive bar epoch lines)) refl
+    where
+      arrived : Processor S
+      arrived = with_arrived now p now.own.turns bar lines
+
+      turns : now.own.turns ≡ suc (length (w.courses p))
+      turns = is.own.turns
+
+      last_before : (a : ℕ) → (now.peers a).last ≤ w.handled p a
+      last_before a = let k : (now.peers a).last ≡ ((w.processors p).peers a).last = ap (λ f. (f a).last) is.peers in let l = h.last a p in omega arith
+
+      go : (b : Bool) → counts now p now.own.turns (Body.Arrive bar epoch lines) ≡ b →
+          IsReached setup first threads (after_turn setup first threads w h p (Label.Arrive bar) (effect_of_body setup p now p now.own.turns (Body.Arrive bar epoch lines)).processor (effect_of_body setup p now p now.own.turns (Body.Arrive bar epoch lines)).sends)
+      go true e = rw e (own_arrived p bar now (manager_after_openings setup p arrived bar) (opening_messages setup p arrived bar) i is record {
+        own = refl;
+        last_own = let k : (arrived.peers p).last ≡ now.own.turns = ap (λ (x : Peer). x.last) (if_same p (record (now.peers p) { last = now.own.turns }) (now.peers p)) in let t = turns in omega arith;
+        last_same = λ a there. (let k : (arrived.peers a).last ≡ (now.peers a).last = rw there refl in let l = last_before a in omega arith);
+        locks = refl;
+        mail = refl;
+        quiet = subst (λ n. AreQuiet n (opening_messages setup p arrived bar)) turns (openings_quiet setup p arrived bar);
+        sent = openings_sent setup p arrived bar;
+        no_self = no_opening_to_me setup p arrived bar;
+        no_grants = no_grants_opened setup p arrived bar;
+      })
+      go false e = rw e (own_arrived p bar now now [] i is record {
+        own = refl;
+        last_own = let k = last_before p in let l = h.own_handled p in omega arith;
+        last_same = λ a there. last_before a;
+        locks = refl;
+        mail = refl;
+        quiet = tt;
+        sent = tt;
+        no_self = refl;
+        no_grants = λ lock a b. refl;
+      })

@@ -3,14 +3,15 @@ use Rattle.std.specs.Prelude.{◌≡◌, ℕ, ◌+◌, Bool, true, false, ◌==�
 use Rattle.std.proofs.Common.{arith, refl, sym, ap, ◌∙◌, subst, inl, inr}
 use Rattle.std.proofs.lemmas.Bool.Decides.{leb_tells, eqb_tells}
 use Rattle.std.proofs.lemmas.List.{length-map}
+use Rattle.dsm_base.specs.declared.names.Bar.{Bar}
 use Rattle.dsm_base.specs.declared.names.Lock.{Lock}
 use Rattle.dsm_base.specs.declared.names.Mode.{Mode}
 use Rattle.dsm_base.specs.declared.label.Label.{Label}
 use Rattle.dsm_base.specs.declared.setup.Setup.{Setup}
 use Rattle.dsm_home.specs.LockStates.{version_made}
-use Rattle.dsm_net.specs.Messages.{home_of}
+use Rattle.dsm_net.specs.Messages.{home_of, manager_of}
 use Rattle.dsm_laws_protocol.specs.Courses.{upto, Move, Claim, claim_of, made_by, move_of, moves_of}
-use Rattle.dsm_laws_protocol.specs.Due.{Item, items, due, IsFirstDue, Word, asked, gave, word_of_give, have_of, word_for}
+use Rattle.dsm_laws_protocol.specs.Due.{Item, items, due, IsFirstDue, Word, asked, gave, arrived, word_of_give, have_of, word_for}
 use Rattle.dsm_laws_protocol.proofs.Courses.{upto_grown, upto_all, upto_map}
 use Rattle.dsm_laws_protocol.proofs.Due.{append_empty, due_grown}
 use Rattle.dsm_laws_protocol.proofs.Homes.{IsNextMove}
@@ -85,7 +86,11 @@ ask_label setup home before (Label.Give other) lock mode own e = go (home_of set
     go : (b : Bool) → (home_of setup other.0 == home) ≡ b → Label.Give other ≡ Label.Ask lock mode
     go true i = absurd (gave_not_asked lock other _ own mode _ (rw i at e))
     go false i = let k : None ≡ Some (asked lock mode own) = rw i at e in cc
-ask_label setup home before (Label.Arrive bar) lock mode own e = cc
+ask_label setup home before (Label.Arrive bar) lock mode own e = go (manager_of setup bar.0 == home) refl
+  where
+    go : (b : Bool) → (manager_of setup bar.0 == home) ≡ b → Label.Arrive bar ≡ Label.Ask lock mode
+    go true i = let k : Some (arrived bar) ≡ Some (asked lock mode own) = rw i at e in cc
+    go false i = let k : None ≡ Some (asked lock mode own) = rw i at e in cc
 ask_label setup home before Label.Quiet lock mode own e = cc
 ask_label setup home before (Label.Load cell value) lock mode own e = cc
 ask_label setup home before (Label.Store cell value) lock mode own e = cc
@@ -129,7 +134,11 @@ give_word setup home before (Label.Ask other m) lock mode version e = go (home_o
     go : (b : Bool) → (home_of setup other.0 == home) ≡ b → IsGive before (Label.Ask other m) lock mode version
     go true i = let k : Some (asked other m (have_of other.0 before)) ≡ Some (gave lock mode version) = rw i at e in cc
     go false i = let k : None ≡ Some (gave lock mode version) = rw i at e in cc
-give_word setup home before (Label.Arrive bar) lock mode version e = cc
+give_word setup home before (Label.Arrive bar) lock mode version e = go (manager_of setup bar.0 == home) refl
+  where
+    go : (b : Bool) → (manager_of setup bar.0 == home) ≡ b → IsGive before (Label.Arrive bar) lock mode version
+    go true i = let k : Some (arrived bar) ≡ Some (gave lock mode version) = rw i at e in cc
+    go false i = let k : None ≡ Some (gave lock mode version) = rw i at e in cc
 give_word setup home before Label.Quiet lock mode version e = cc
 give_word setup home before (Label.Load cell value) lock mode version e = cc
 give_word setup home before (Label.Store cell value) lock mode version e = cc
@@ -138,6 +147,36 @@ give_word setup home before (Label.Cross bar epoch) lock mode version e = cc
 give_word setup home before (Label.Line text) lock mode version e = cc
 give_word setup home before Label.End lock mode version e = cc
 give_word setup home before (Label.Stop fault line) lock mode version e = cc
+
+gave_not_came : (other : Lock) (version : ℕ) (bar : Bar) (claim : Option Claim) → word_of_give other version claim ≡ Some (arrived bar) → ⊥
+gave_not_came other version bar None e = cc
+gave_not_came other version bar (Some claim) e = cc
+
+-- only an arrival says that a processor has come
+pub came_label : (setup : Setup) (home : ℕ) (before : List Label) (label : Label) (bar : Bar) → word_for setup home before label ≡ Some (arrived bar) → label ≡ Label.Arrive bar
+came_label setup home before (Label.Arrive other) bar e = go (manager_of setup other.0 == home) refl
+  where
+    go : (b : Bool) → (manager_of setup other.0 == home) ≡ b → Label.Arrive other ≡ Label.Arrive bar
+    go true i = let k : Some (arrived other) ≡ Some (arrived bar) = rw i at e in cc
+    go false i = let k : None ≡ Some (arrived bar) = rw i at e in cc
+came_label setup home before (Label.Ask other m) bar e = go (home_of setup other.0 == home) refl
+  where
+    go : (b : Bool) → (home_of setup other.0 == home) ≡ b → Label.Ask other m ≡ Label.Arrive bar
+    go true i = let k : Some (asked other m (have_of other.0 before)) ≡ Some (arrived bar) = rw i at e in cc
+    go false i = let k : None ≡ Some (arrived bar) = rw i at e in cc
+came_label setup home before (Label.Give other) bar e = go (home_of setup other.0 == home) refl
+  where
+    go : (b : Bool) → (home_of setup other.0 == home) ≡ b → Label.Give other ≡ Label.Arrive bar
+    go true i = absurd (gave_not_came other (have_of other.0 before) bar (claim_of (moves_of other.0 before)) (rw i at e))
+    go false i = let k : None ≡ Some (arrived bar) = rw i at e in cc
+came_label setup home before Label.Quiet bar e = cc
+came_label setup home before (Label.Load cell value) bar e = cc
+came_label setup home before (Label.Store cell value) bar e = cc
+came_label setup home before (Label.Take other m version) bar e = cc
+came_label setup home before (Label.Cross other epoch) bar e = cc
+came_label setup home before (Label.Line text) bar e = cc
+came_label setup home before Label.End bar e = cc
+came_label setup home before (Label.Stop fault line) bar e = cc
 
 -- Moves.
 

@@ -3,6 +3,7 @@ use Rattle.std.specs.Prelude.{◌≡◌, ℕ, suc, ◌+◌, ◌≤◌, true, Lis
 use Rattle.std.proofs.Common.{arith, refl, sym, ap, ap₂, ◌∙◌, subst, inl, inr}
 use Rattle.std.proofs.lemmas.Bool.Decides.{eqb_tells}
 use Rattle.std.proofs.lemmas.List.{length-map}
+use Rattle.dsm_base.specs.declared.names.Bar.{Bar}
 use Rattle.dsm_base.specs.declared.names.Lock.{Lock}
 use Rattle.dsm_base.specs.declared.names.Mode.{Mode}
 use Rattle.dsm_base.specs.declared.label.Label.{Label}
@@ -14,17 +15,17 @@ use Rattle.dsm_msg.specs.declared.message.Body.{Body}
 use Rattle.dsm_home.specs.LockStates.{version_made}
 use Rattle.dsm_net.specs.Processor.{Own, Processor}
 use Rattle.dsm_net.specs.Turns.{dirty_lines}
-use Rattle.dsm_net.specs.Messages.{home_of}
+use Rattle.dsm_net.specs.Messages.{home_of, manager_of}
 use Rattle.dsm_net.specs.Effects.{may_bring, with_release, release_of, body_of, effect_of_body, effect_of_telling}
 use Rattle.dsm_laws_protocol.specs.Courses.{Move, gives, still, Claim, move_of, moves_of, claim_of, have_by, held_by, Follows, IsCourse}
-use Rattle.dsm_laws_protocol.specs.Due.{asked, gave, have_of}
+use Rattle.dsm_laws_protocol.specs.Due.{asked, gave, arrived, have_of}
 use Rattle.dsm_laws_protocol.specs.Worlds.{World}
 use Rattle.dsm_laws_protocol.proofs.Families.{if_same, same_number}
 use Rattle.dsm_laws_protocol.proofs.Courses.{upto_all, IsGiving, giving, claim_held}
 use Rattle.dsm_laws_protocol.proofs.Due.{cons_parts}
 use Rattle.dsm_laws_protocol.proofs.Handling.{IsDue, IsReturn, give_counts, give_lawful}
 use Rattle.dsm_laws_protocol.proofs.Reached.{IsReached, after_turn}
-use Rattle.dsm_laws_protocol.proofs.Making.{IsMaking, own_made, own_due, own_reached, own_asked, silent_reached, telling_reached}
+use Rattle.dsm_laws_protocol.proofs.Making.{IsMaking, own_made, own_due, own_reached, own_asked, own_came, silent_reached, telling_reached}
 
 -- what is told when a hold ends
 pub record IsGivenBack {S : Type 0} (setup : Setup) (own : Own S) (lock : Lock) (moves : List Move) : Type 0 where
@@ -146,8 +147,25 @@ module _ {S : Type 0} (setup : Setup) (first : ℕ → S) (threads : Semantics S
         })
       ])
 
+  arrive_reached : (p : ℕ) (bar : Bar) (now : Processor S) → IsMaking setup first threads w h p (Label.Arrive bar) now → Reaches p (Label.Arrive bar) now (body_of setup (w.processors p).own (Label.Arrive bar))
+  arrive_reached p bar now is =
+      let epoch : ℕ = (w.processors p).own.crossed bar.0 in
+      let lines : List Line = dirty_lines setup (w.processors p).own (Object.Bar bar) in
+      elim (eqb_tells (manager_of setup bar.0) p) [
+        | inl (t, i) ↦ rw t (own_came setup first threads w h p bar now epoch lines i is)
+        | inr (t, _) ↦ rw t (telling_reached setup first threads w h p (Label.Arrive bar) now is (manager_of setup bar.0) (Body.Arrive bar epoch lines) (arrived bar) record {
+          apart = t;
+          is_word = rw (same_number (manager_of setup bar.0)) refl;
+          no_other = λ q ne. rw ne refl;
+          tells = ap (λ n. record { turn = n; body = arrived bar } ∷ []) (count_of p (Label.Arrive bar) now is);
+          fits = tt;
+          no_grant = λ other. refl;
+        })
+      ]
+
   -- any turn
   pub made_reached : (p : ℕ) (label : Label) (now : Processor S) → IsMaking setup first threads w h p label now → Reaches p label now (body_of setup (w.processors p).own label)
   made_reached p (Label.Ask lock mode) now is = ask_reached p lock mode now is
   made_reached p (Label.Give lock) now is = give_reached p lock now is
+  made_reached p (Label.Arrive bar) now is = arrive_reached p bar now is
   made_reached p label now is = silent_reached setup first threads w h p label now is (λ q. refl)

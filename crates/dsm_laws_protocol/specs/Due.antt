@@ -1,11 +1,12 @@
--- What a home is due of a course: the asks and gives beyond the turn up to which it has handled it, the oldest first.
+-- What a home is due of a course: the asks, gives and arrivals beyond the turn up to which it has handled it, the oldest first.
 use Rattle.std.specs.Prelude.{◌≡◌, ℕ, ◌+◌, ◌<◌, ◌≤◌, ◌==◌, if◌then◌else◌, nat_lt, List, [], ◌∷◌, ◌++◌, length, Option, Some, None}
+use Rattle.dsm_base.specs.declared.names.Bar.{Bar}
 use Rattle.dsm_base.specs.declared.names.Lock.{Lock}
 use Rattle.dsm_base.specs.declared.names.Mode.{Mode}
 use Rattle.dsm_base.specs.declared.label.Label.{Label}
 use Rattle.dsm_base.specs.declared.setup.Setup.{Setup}
 use Rattle.dsm_home.specs.LockStates.{version_made}
-use Rattle.dsm_net.specs.Messages.{home_of}
+use Rattle.dsm_net.specs.Messages.{home_of, manager_of}
 use Rattle.dsm_laws_protocol.specs.Courses.{upto, Claim, moves_of, claim_of, have_by}
 
 -- a body with the turn that made it
@@ -48,10 +49,11 @@ pub record IsFirstDue {A B : Type 0} (makes : List A → A → Option B) (k : �
 
 -- What a label says to a home.
 
--- what a processor tells the home of a lock: that it asks for it, or that it gave it back
+-- what a processor tells the home of a lock: that it asks for it, or that it gave it back; and the manager of a barrier: that it has come
 pub data Word : Type 0 where
   asked : (lock : Lock) (mode : Mode) («have» : ℕ) → Word
   gave : (lock : Lock) (mode : Mode) (version : ℕ) → Word
+  arrived : (bar : Bar) → Word
 
 -- the version of a lock that labels leave
 abbrev pub have_of : ℕ → List Label → ℕ
@@ -62,8 +64,9 @@ abbrev pub word_of_give : Lock → ℕ → Option Claim → Option Word
 word_of_give lock version None = None
 word_of_give lock version (Some claim) = Some (gave lock claim.mode (version_made claim.mode version))
 
--- what a label tells this home
+-- what a label tells this home or manager
 abbrev pub word_for : Setup → ℕ → List Label → Label → Option Word
 word_for setup home before (Label.Ask lock mode) = if home_of setup lock.0 == home then Some (asked lock mode (have_of lock.0 before)) else None
 word_for setup home before (Label.Give lock) = if home_of setup lock.0 == home then word_of_give lock (have_of lock.0 before) (claim_of (moves_of lock.0 before)) else None
+word_for setup home before (Label.Arrive bar) = if manager_of setup bar.0 == home then Some (arrived bar) else None
 word_for setup home before _ = None

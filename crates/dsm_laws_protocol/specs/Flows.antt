@@ -4,12 +4,13 @@ use Rattle.dsm_base.specs.declared.label.Label.{Label}
 use Rattle.dsm_base.specs.declared.setup.Setup.{Setup}
 use Rattle.dsm_msg.specs.declared.message.Body.{Body}
 use Rattle.dsm_msg.specs.declared.message.Msg.{Msg}
-use Rattle.dsm_laws_protocol.specs.Due.{Item, due, AreOver, Word, asked, gave, word_for}
+use Rattle.dsm_laws_protocol.specs.Due.{Item, due, AreOver, Word, asked, gave, arrived, word_for}
 
--- what a body tells a home
+-- what a body tells a home or manager
 abbrev pub words_in : ℕ → Body → List (Item Word)
 words_in turn (Body.Req lock mode «have») = record { turn = turn; body = asked lock mode «have» } ∷ []
 words_in turn (Body.Release lock mode version lines) = record { turn = turn; body = gave lock mode version } ∷ []
+words_in turn (Body.Arrive bar epoch lines) = record { turn = turn; body = arrived bar } ∷ []
 words_in turn _ = []
 
 -- what messages tell, in their order

@@ -1,3 +1,4 @@
+mod Crossing
 mod HandOver
 mod Readers
 mod ShippedLine

@@ -1,5 +1,6 @@
 -- What a processor does with a body that comes to it, and with a turn of its own.
 use Rattle.std.specs.Prelude.{ℕ, ◌+◌, Bool, true, false, ◌&&◌, ◌==◌, not, if◌then◌else◌, nat_lt, List, [], ◌∷◌, ◌++◌, Option, Some, None, is_some}
+use Rattle.dsm_base.specs.declared.names.Bar.{Bar}
 use Rattle.dsm_base.specs.declared.names.Lock.{Lock}
 use Rattle.dsm_base.specs.declared.names.Mode.{Mode}
 use Rattle.dsm_base.specs.declared.label.Label.{Label}
@@ -16,10 +17,12 @@ use Rattle.dsm_msg.specs.declared.message.Body.{Body}
 use Rattle.dsm_msg.specs.declared.message.Msg.{Msg}
 use Rattle.dsm_home.specs.declared.waiting.Waiting.{Waiting}
 use Rattle.dsm_home.specs.LockStates.{LockState, mode_among, waits_for, lock_with_request, lock_after_release, version_made}
+use Rattle.dsm_barrier.specs.BarrierStates.{BarrierState, counts as arrival_counts, arrived_in, with_arrival}
 use Rattle.dsm_net.specs.Processor.{Own, HomeLines, Processor}
 use Rattle.dsm_net.specs.Turns.{OwnTurn, own_after, mail_after, dirty_lines}
 use Rattle.dsm_net.specs.Messages.{processor_named, keeper_of, message, with_carry}
 use Rattle.dsm_net.specs.Grants.{home_after_grants, grant_messages}
+use Rattle.dsm_net.specs.Openings.{manager_after_openings, opening_messages}
 
 -- what a processor does in a unit, its parts in this order
 pub record Effect (S : Type 0) : Type 0 where
@@ -68,12 +71,13 @@ abbrev pub may_give : LockState → ℕ → Mode → ℕ → List Line → Bool
 may_give lock p mode version lines =
     is_mode mode (mode_among lock.holders p) && ((version == version_made mode lock.version) && may_bring mode lines)
 
--- whether a body counts: a home handles one of each turn, and leaves alone what no run has
+-- whether a body counts: a home or manager handles one of each turn, and leaves alone what no run has
 abbrev pub counts : {S : Type 0} → Processor S → ℕ → ℕ → Body → Bool
 counts s from turn (Body.Req lock mode «have») = nat_lt (s.peers from).last turn && may_ask (s.locks lock.0) from
 counts s from turn (Body.Release lock mode version lines) =
     nat_lt (s.peers from).last turn && may_give (s.locks lock.0) from mode version lines
-counts s from turn (Body.Arrive bar epoch lines) = nat_lt (s.peers from).last turn
+counts s from turn (Body.Arrive bar epoch lines) =
+    arrival_counts (s.barriers bar.0) (s.peers from).last from turn epoch
 counts s from turn _ = true
 
 -- one who asks in a turn would take the lock in the next
@@ -110,9 +114,32 @@ abbrev pub with_release : {S : Type 0} → Setup → Processor S → ℕ → ℕ
 with_release setup s from turn lock mode version lines = record (with_lock (with_last s from turn) lock
     (lock_after_release (s.locks lock.0) from mode)) { lines = with_version setup.bindings s.lines version lines }
 
+-- with another state of a barrier
+abbrev pub with_barrier : {S : Type 0} → Processor S → Bar → BarrierState → Processor S
+with_barrier s bar state = record s { barriers = update s.barriers bar.0 state }
+
+-- a manager before it opens what an arrival lets it open
+abbrev pub with_arrived : {S : Type 0} → Processor S → ℕ → ℕ → Bar → List Line → Processor S
+with_arrived s from turn bar lines =
+    with_barrier (with_last s from turn) bar (with_arrival (s.barriers bar.0) from (arrived_in turn lines))
+
+-- an opening has come, for the next turn
+abbrev pub with_opening : {S : Type 0} → Processor S → Bar → ℕ → List Line → Processor S
+with_opening s bar epoch lines = record s {
+  mail = record s.mail {
+    openings = s.mail.openings
+        ++ record { turn = s.own.turns + 1; bar = bar; epoch = epoch; lines = lines } ∷ [];
+  };
+}
+
 -- the lock is granted to all to whom it may be
 abbrev pub effect_of_grants : {S : Type 0} → Setup → ℕ → Processor S → Lock → Effect S
 effect_of_grants setup me s lock = only (home_after_grants setup me s lock) (grant_messages setup me s lock)
+
+-- the barrier is opened where all have come
+abbrev pub effect_of_openings : {S : Type 0} → Setup → ℕ → Processor S → Bar → Effect S
+effect_of_openings setup me s bar =
+    only (manager_after_openings setup me s bar) (opening_messages setup me s bar)
 
 -- what a body does that counts
 abbrev pub effect_of : {S : Type 0} → Setup → ℕ → Processor S → ℕ → ℕ → Body → Effect S
@@ -127,6 +154,9 @@ effect_of setup me s from turn (Body.Grant lock mode take version lines) =
             ++ record { turn = take; lock = lock; mode = mode; version = version; lines = lines } ∷ [];
       };
     }) []
+effect_of setup me s from turn (Body.Arrive bar epoch lines) =
+    effect_of_openings setup me (with_arrived s from turn bar lines) bar
+effect_of setup me s from turn (Body.Opened bar epoch lines) = only (with_opening s bar epoch lines) []
 effect_of setup me s from turn _ = only s []
 
 -- me handles a body of a turn of another, or of its own
@@ -153,6 +183,8 @@ release_of setup own lock (Some Mode.Excl) =
 abbrev pub body_of : {S : Type 0} → Setup → Own S → Label → Option Body
 body_of setup own (Label.Ask lock mode) = Some (Body.Req lock mode (own.versions lock.0))
 body_of setup own (Label.Give lock) = release_of setup own lock (own.held lock.0)
+body_of setup own (Label.Arrive bar) =
+    Some (Body.Arrive bar (own.crossed bar.0) (dirty_lines setup own (Object.Bar bar)))
 body_of setup own _ = None
 
 -- a body goes to its home or manager: it is handled at once where p is that itself, and else sent

@@ -3,6 +3,7 @@ pub mod Inputs
 pub mod Turns
 pub mod Messages
 pub mod Grants
+pub mod Openings
 pub mod Effects
 pub mod Net
 pub mod Units

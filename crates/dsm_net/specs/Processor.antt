@@ -6,7 +6,6 @@ use Rattle.dsm_base.specs.declared.lists.Record.{Record}
 use Rattle.dsm_base.specs.declared.lists.PendingLine.{PendingLine}
 use Rattle.dsm_base.specs.declared.lists.LoggedGrant.{LoggedGrant}
 use Rattle.dsm_base.specs.declared.lists.LoggedOpening.{LoggedOpening}
-use Rattle.dsm_lines.specs.declared.list.Line.{Line}
 use Rattle.dsm_lines.specs.declared.of_objects.Version.{Version}
 use Rattle.dsm_lines.specs.declared.of_objects.Arrival.{Arrival}
 use Rattle.dsm_lines.specs.declared.of_objects.MailGrant.{MailGrant}
@@ -15,6 +14,7 @@ use Rattle.dsm_msg.specs.declared.message.Body.{Body}
 use Rattle.dsm_msg.specs.declared.message.Report.{Report}
 use Rattle.dsm_msg.specs.declared.message.TurnBody.{TurnBody}
 use Rattle.dsm_home.specs.LockStates.{LockState, start_lock}
+use Rattle.dsm_barrier.specs.BarrierStates.{BarrierState, start_barrier}
 
 -- what its own turns leave, and nothing else does
 pub record Own (S : Type 0) : Type 0 where
@@ -37,11 +37,6 @@ pub record Mail : Type 0 where
 pub record HomeLines : Type 0 where
   pub stamps : ℕ → ℕ  -- by line: the version in which it was last stored to
   pub values : ℕ → ℤ  -- by cell: at that version
-
--- what a barrier's manager knows of one processor: how often it has arrived, and the lines that it brought last
-pub record Arrivals : Type 0 where
-  pub count : ℕ
-  pub brought : List Line
 
 -- what it knows of another processor
 pub record Peer : Type 0 where
@@ -84,7 +79,7 @@ pub record Processor (S : Type 0) : Type 0 where
   pub mail : Mail
   pub locks : ℕ → LockState  -- those that it is home of count
   pub lines : HomeLines
-  pub barriers : ℕ → ℕ → Arrivals  -- by barrier and processor; those that it manages count
+  pub barriers : ℕ → BarrierState  -- those that it manages count
   pub peers : ℕ → Peer
   pub tail : Tail
   pub logs : Logs
@@ -111,7 +106,7 @@ start_processor thread = record {
   mail = record { grants = []; openings = [] };
   locks = λ lock. start_lock;
   lines = record { stamps = λ line. 0; values = λ cell. pos 0 };
-  barriers = λ bar q. record { count = 0; brought = [] };
+  barriers = λ bar. start_barrier;
   peers = λ q. record { seen = 0; told = 0; last = 0; outbox = []; pruned = 0 };
   tail = record { known = 0; records = []; lines = []; noted = false };
   logs = record {

@@ -1,3 +1,4 @@
+pub mod BarrierLines
 pub mod Orders
 pub mod UnderWay
 pub mod Sending

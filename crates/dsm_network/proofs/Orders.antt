@@ -1,12 +1,12 @@
 -- The messages that processors send keep each range and order, so that they can be read from their bytes.
-use Rattle.std.proofs.Common.{◌≡◌, ◌+◌, ◌-◌, ◌*◌, ◌<◌, ◌≤◌, ◌==◌, ℕ, ℤ, zero, suc, Bool, true, false, ◌&&◌, not, if◌then◌else◌, List, [], ◌∷◌, ◌++◌, length, map, filter, Option, Some, None, refl, sym, ap, ◌∙◌, subst, inl, inr, arith}
-use Rattle.std.specs.Prelude.{nat_lt, nat_le, min, IfSome}
-use Rattle.std.specs.List.{All, range_with_len}
+use Rattle.std.proofs.Common.{◌≡◌, ◌+◌, ◌<◌, ◌≤◌, ◌==◌, ℕ, ℤ, Bool, true, false, ◌&&◌, not, if◌then◌else◌, List, [], ◌∷◌, ◌++◌, length, get_or, filter, Option, Some, None, refl, sym, ap, ◌∙◌, subst, arith}
+use Rattle.std.specs.Prelude.{nat_lt, nat_le, IfSome}
+use Rattle.std.specs.List.{All}
 use Rattle.std.specs.Option.{option_map}
-use Rattle.std.proofs.lemmas.Bool.Decides.{leb_tells, nat_tests}
-use Rattle.std.proofs.lemmas.List.{length-map}
-use Rattle.std.proofs.lemmas.List.Elements.{All-nil, All-cons, All-map, All-weaker, filter_passes}
-use Rattle.std.proofs.lemmas.List.FromFn.{length-range_with_len}
+use Rattle.std.proofs.lemmas.Bool.Decides.{nat_tests}
+use Rattle.std.proofs.lemmas.Grind.{common_steps}
+use Rattle.std.proofs.lemmas.List.Elements.{All-nil, All-cons, All-map, All-weaker, All-filter, filter_passes}
+use Rattle.dsm_base.specs.declared.names.Bar.{Bar}
 use Rattle.dsm_base.specs.declared.names.Lock.{Lock}
 use Rattle.dsm_base.specs.declared.names.Mode.{Mode}
 use Rattle.dsm_base.specs.declared.label.Label.{Label}
@@ -15,78 +15,31 @@ use Rattle.dsm_base.specs.declared.setup.Piece.{Piece}
 use Rattle.dsm_base.specs.declared.setup.Setup.{Setup}
 use Rattle.dsm_base.specs.Threads.{Semantics}
 use Rattle.dsm_lines.specs.declared.list.Line.{Line}
-use Rattle.dsm_lines.specs.Places.{line_count, lines, cells_in, same_object, lines_from, lines_of}
-use Rattle.dsm_lines.specs.Copies.{line_with, lines_where}
-use Rattle.dsm_lines.proofs.Cells.{width_most, is_below}
+use Rattle.dsm_lines.specs.declared.of_objects.Opening.{Opening}
+use Rattle.dsm_lines.specs.LineLists.{are_lines_from, are_lines}
+use Rattle.dsm_lines.specs.Copies.{lines_where}
+use Rattle.dsm_lines.proofs.Cells.{is_below}
 use Rattle.dsm_msg.specs.declared.message.Body.{Body}
 use Rattle.dsm_msg.specs.declared.message.Msg.{Msg}
 use Rattle.dsm_fields.specs.Fields.{Field, byte, is_over, entries, are_kept}
-use Rattle.dsm_msg.proofs.Layers.{out_req, out_grant, out_release}
+use Rattle.dsm_msg.proofs.Layers.{out_req, out_grant, out_release, out_arrive, out_opened}
 use Rattle.dsm_msg.specs.Spelling.{Layer, layer_fields, value_fields, line_fields, body_fields, carry_fields, kind_of, is_other, IsInOrder}
 use Rattle.dsm_home.specs.LockStates.{grants_of}
 use Rattle.dsm_net.specs.Processor.{Own, Processor}
 use Rattle.dsm_net.specs.Messages.{keeper_of, message, with_carry}
 use Rattle.dsm_net.specs.Grants.{is_of, grant_message, grant_messages, home_after_grants}
-use Rattle.dsm_net.specs.Effects.{Effect, only, counts, with_request, with_release, effect_of_grants, effect_of, effect_of_body, effect_of_message, release_of, body_of, effect_of_telling_to, effect_of_telling, effect_of_turn, processor_after}
+use Rattle.dsm_net.specs.Openings.{is_to, openings_now, opening_message, opening_messages, manager_after_openings}
+use Rattle.dsm_net.specs.Effects.{Effect, only, counts, with_request, with_release, with_arrived, effect_of_grants, effect_of_openings, effect_of, effect_of_body, effect_of_message, release_of, body_of, effect_of_telling_to, effect_of_telling, effect_of_turn, processor_after}
 use Rattle.dsm_net.specs.Turns.{OwnTurn}
-use Rattle.dsm_processor.specs.Names.{IsSendOf}
+use Rattle.dsm_processor.specs.Names.{BodyNames, IsSendOf}
 use Rattle.dsm_processor.specs.Node.{effects_of}
 use Rattle.dsm_processor.specs.declared.node.Effects.{Effects}
+use Rattle.dsm_processor.proofs.Rising.{where_are_lines}
 use Rattle.dsm_network.specs.World.{IsSendable}
 use Rattle.dsm_network.specs.Effects.{AreSendable}
+use Rattle.dsm_network.proofs.BarrierLines.{AllHaveLines, of_arrival, opened_lines}
 
 -- Lines.
-
--- numbers rise from at least the one to below the other
-abbrev Rise : ℕ → ℕ → List ℕ → Type 0
-Rise least end [] = Unit {0}
-Rise least end (number ∷ numbers) = (least ≤ number) × (number < end) × Rise (number + 1) end numbers
-
-rise_lower : (low least end : ℕ) (numbers : List ℕ) → low ≤ least → Rise least end numbers → Rise low end numbers
-rise_lower low least end [] le rise = tt
-rise_lower low least end (number ∷ numbers) le rise = (omega (arith, le, rise.0), rise.1, rise.2)
-
-rise_range : (start count end : ℕ) → start + count ≤ end → Rise start end (range_with_len start count)
-rise_range start zero end le = tt
-rise_range start (suc count) end le = (omega arith, omega (arith, le), rise_range (start + 1) count end (omega (arith, le)))
-
-rise_append : (least mid end : ℕ) (front behind : List ℕ) → mid ≤ end → least ≤ mid → Rise least mid front → Rise mid end behind → Rise least end (front ++ behind)
-rise_append least mid end [] behind le low first second = rise_lower least mid end behind low second
-rise_append least mid end (number ∷ front) behind le low first second =
-    (first.0, omega (arith, le, first.1), rise_append (number + 1) mid end front behind le (omega (arith, first.1)) first.2 second)
-
-rise_either : (least end number : ℕ) (numbers : List ℕ) (b : Bool) → least ≤ number → number < end → Rise (number + 1) end numbers → Rise least end (if b then number ∷ numbers else numbers)
-rise_either least end number numbers true low high rest = (low, high, rest)
-rise_either least end number numbers false low high rest = rise_lower least (number + 1) end numbers (omega (arith, low)) rest
-
-rise_filter : (test : ℕ → Bool) (least end : ℕ) (numbers : List ℕ) → Rise least end numbers → Rise least end (filter test numbers)
-rise_filter test least end [] rise = tt
-rise_filter test least end (number ∷ numbers) rise =
-    rise_either least end number (filter test numbers) (test number) rise.0 rise.1 (rise_filter test (number + 1) end numbers rise.2)
-
-rise_part : (start count end : ℕ) (b : Bool) → start + count ≤ end → Rise start end (if b then range_with_len start count else [])
-rise_part start count end true le = rise_range start count end le
-rise_part start count end false le = tt
-
--- the lines of an object rise
-rise_lines : (start : ℕ) (pieces : List Piece) (object : Object) → Rise start (start + lines pieces) (lines_from start pieces object)
-rise_lines start [] object = tt
-rise_lines start (piece ∷ others) object =
-    let mid = start + line_count piece in
-    let same : mid + lines others ≡ start + lines (piece ∷ others) = omega arith in
-    rise_append start mid (start + lines (piece ∷ others)) (if same_object piece.object object then range_with_len start (line_count piece) else []) (lines_from mid others object)
-    (omega arith) (omega arith)
-    (rise_part start (line_count piece) mid (same_object piece.object object) (omega arith))
-    (subst (λ end. Rise mid end (lines_from mid others object)) same (rise_lines mid others object))
-
--- a line has a cell
-width_least : (pieces : List Piece) (line : ℕ) → line < lines pieces → 1 ≤ length (cells_in pieces line)
-width_least [] line within = absurd (omega arith)
-width_least (piece ∷ others) line within =
-    elim (leb_tells (suc line) (line_count piece)) [
-      | inl (is, below) ↦ rw is (omega (arith, below, length-range_with_len (piece.first.0 + 8 * line) (min 8 (piece.count - 8 * line))))
-      | inr (is, above) ↦ rw is (width_least others (line - line_count piece) (omega (arith, above)))
-    ]
 
 both_assoc : (a b c : Bool) → (a && (b && c)) ≡ ((a && b) && c)
 both_assoc true b c = refl
@@ -109,23 +62,26 @@ kept_line : (last : Option Line) (line : Line) (behind : List Field) → is_over
 kept_line last line behind over some few rest =
     kept_append (line_fields last line) behind ∙ rw (over, at_most 1 (length line.values) some, at_most (length line.values) 8 few, kept_values None line.values, rest) refl
 
--- lines of risen numbers keep the order of their entries
-kept_lines : (pieces : List Piece) (memory : ℕ → ℤ) (last : Option Line) (least : ℕ) (numbers : List ℕ) → ((number : ℕ) → least ≤ number → is_over (option_map (λ one. one.number) last) number ≡ true)
-    → Rise least (lines pieces) numbers → are_kept (entries line_fields last (map (line_with pieces memory) numbers)) ≡ true
-kept_lines pieces memory last least [] over rise = refl
-kept_lines pieces memory last least (number ∷ numbers) over rise =
-    let line = line_with pieces memory number in
-    let width : length line.values ≡ length (cells_in pieces number) = length-map (cells_in pieces number) memory in
-    kept_line last line (entries line_fields (Some line) (map (line_with pieces memory) numbers)) (over number rise.0)
-    (omega (arith, width, width_least pieces number rise.1)) (omega (arith, width, width_most pieces number))
-    (kept_lines pieces memory (Some line) (number + 1) numbers (λ next le. is_below number next (omega (arith, le))) rise.2)
+line_parts : (width least number : ℕ) (rest : Bool) → ((nat_lt 0 width && nat_le width 8) && (nat_le least number && rest)) ≡ true → (1 ≤ width) × (width ≤ 8) × (least ≤ number) × (rest ≡ true)
+line_parts width least number rest all =
+    (grind (arith, nat_tests, common_steps), grind (arith, nat_tests, common_steps), grind (arith, nat_tests, common_steps), grind (arith, nat_tests, common_steps))
 
--- the lines of an object that pass a test do
+kept_from : (last : Option Line) (least : ℕ) (lines : List Line) → ((number : ℕ) → least ≤ number → is_over (option_map (λ one. one.number) last) number ≡ true)
+    → are_lines_from least lines ≡ true → are_kept (entries line_fields last lines) ≡ true
+kept_from last least [] over are = refl
+kept_from last least (line ∷ lines) over are =
+    let parts = line_parts (length line.values) least line.number (are_lines_from (line.number + 1) lines) are in
+    kept_line last line (entries line_fields (Some line) lines) (over line.number parts.2) parts.0 parts.1
+    (kept_from (Some line) (line.number + 1) lines (λ next le. is_below line.number next (omega (arith, le))) parts.3)
+
+-- a list of lines keeps the order of its entries
+kept_lines : (lines : List Line) → are_lines lines ≡ true → are_kept (entries line_fields None lines) ≡ true
+kept_lines lines are = kept_from None 0 lines (λ number le. refl) are
+
+-- so do the lines of an object that pass a test
 kept_where : (pieces : List Piece) (test : ℕ → Bool) (memory : ℕ → ℤ) (object : Object) → are_kept (entries line_fields None (lines_where pieces test memory object)) ≡ true
 kept_where pieces test memory object =
-    let same : 0 + lines pieces ≡ lines pieces = omega arith in
-    kept_lines pieces memory None 0 (filter test (lines_of pieces object)) (λ number le. refl)
-    (rise_filter test 0 (lines pieces) (lines_of pieces object) (subst (λ end. Rise 0 end (lines_of pieces object)) same (rise_lines 0 pieces object)))
+    kept_lines (lines_where pieces test memory object) (where_are_lines pieces test memory object)
 
 -- Messages.
 
@@ -146,6 +102,23 @@ kept_shared lock version = ap (λ (x : Layer). are_kept (layer_fields x)) (out_r
 kept_exclusive : (lock : Lock) (version : ℕ) (lines : List Line) → are_kept (entries line_fields None lines) ≡ true → IsKept (Body.Release lock Mode.Excl version lines)
 kept_exclusive lock version lines kept =
     ap (λ (x : Layer). are_kept (layer_fields x)) (out_release lock Mode.Excl version lines) ∙ kept
+
+kept_arrival : (bar : Bar) (epoch : ℕ) (lines : List Line) → are_lines lines ≡ true → IsKept (Body.Arrive bar epoch lines)
+kept_arrival bar epoch lines are =
+    ap (λ (x : Layer). are_kept (layer_fields x)) (out_arrive bar epoch lines) ∙ kept_lines lines are
+
+kept_opening : (bar : Bar) (epoch : ℕ) (lines : List Line) → are_lines lines ≡ true → IsKept (Body.Opened bar epoch lines)
+kept_opening bar epoch lines are =
+    ap (λ (x : Layer). are_kept (layer_fields x)) (out_opened bar epoch lines) ∙ kept_lines lines are
+
+-- an arrival brings a list of lines
+abbrev pub BringsLines : Body → Type 0
+BringsLines (Body.Arrive bar epoch lines) = are_lines lines ≡ true
+BringsLines _ = Unit {0}
+
+pub brings_lines : (setup : Setup) (body : Body) → BodyNames setup body → BringsLines body
+brings_lines setup (Body.Arrive bar epoch lines) names = names.1
+brings_lines setup _ names = tt
 
 -- a message of one processor to another, which brings nothing along and has a body that keeps its order
 pub record IsFit (me : ℕ) (msg : Msg) : Type 0 where
@@ -175,6 +148,7 @@ fit_sendable setup me msg few within fit send =
       from = from;
       to = send.to;
       names = send.names;
+      kept = send.kept;
       in_order = kept_message msg (small msg.from.0 setup.procs from few) other fit.records fit.lines fit.body;
     }
 
@@ -192,6 +166,10 @@ fit_only me s sends fit = record { sends = fit; rebuilt = refl; note = refl }
 fit_none : {S : Type 0} (me : ℕ) (s : Processor S) → AreFit me (only s [])
 fit_none me s = fit_only me s [] (All-nil (IsFit me))
 
+is_false : (b : Bool) → not b ≡ true → b ≡ false
+is_false true e = cc
+is_false false e = refl
+
 -- the grants of a lock
 fit_grants : {S : Type 0} (setup : Setup) (me : ℕ) (s : Processor S) (lock : Lock) → s.tail.records ≡ [] → s.tail.lines ≡ [] → AreFit me (effect_of_grants setup me s lock)
 fit_grants setup me s lock records lines =
@@ -207,19 +185,40 @@ fit_grants setup me s lock records lines =
     })
     (filter (λ one. not (is_of me one)) (grants_of (s.locks lock.0)))
     (filter_passes (λ one. not (is_of me one)) (grants_of (s.locks lock.0)))))
-  where
-    is_false : (b : Bool) → not b ≡ true → b ≡ false
-    is_false true e = cc
-    is_false false e = refl
+
+fit_opening : {S : Type 0} (me : ℕ) (s : Processor S) (one : Opening) → not (is_to me one) ≡ true → are_lines one.lines ≡ true → s.tail.records ≡ [] → s.tail.lines ≡ [] → IsFit me (opening_message me s one)
+fit_opening me s one other are records lines = record {
+  from = refl;
+  other = is_false (one.to.0 == me) other;
+  records = records;
+  lines = lines;
+  body = kept_opening one.bar one.epoch one.lines are;
+}
+
+-- the openings of a barrier
+fit_openings : {S : Type 0} (setup : Setup) (me : ℕ) (s : Processor S) (bar : Bar) → AllHaveLines (s.barriers bar.0) → s.tail.records ≡ [] → s.tail.lines ≡ [] → AreFit me (effect_of_openings setup me s bar)
+fit_openings setup me s bar waits records lines =
+    let due = openings_now setup s bar in
+    fit_only me (manager_after_openings setup me s bar) (opening_messages setup me s bar)
+    (All-map (IsFit me) (opening_message me s) (filter (λ one. not (is_to me one)) due)
+    (λ k d within. fit_opening me s (get_or (filter (λ one. not (is_to me one)) due) k d) (filter_passes (λ one. not (is_to me one)) due k d within)
+    (All-filter (λ one. not (is_to me one)) (λ one. are_lines one.lines ≡ true) due (opened_lines setup.procs bar (s.barriers bar.0) waits) k d within) records lines))
+
+-- what waits at each barrier are lists of lines
+abbrev pub HasLinesWaiting : {S : Type 0} → Processor S → Type 0
+HasLinesWaiting s = (bar : ℕ) → AllHaveLines (s.barriers bar)
 
 -- what a body does that counts
-fit_effect : {S : Type 0} (setup : Setup) (me : ℕ) (s : Processor S) (from turn : ℕ) (body : Body) → s.tail.records ≡ [] → s.tail.lines ≡ [] → AreFit me (effect_of setup me s from turn body)
-fit_effect setup me s from turn (Body.Req lock mode «have») records lines =
+fit_effect : {S : Type 0} (setup : Setup) (me : ℕ) (s : Processor S) (from turn : ℕ) (body : Body) → HasLinesWaiting s → BringsLines body → s.tail.records ≡ [] → s.tail.lines ≡ [] → AreFit me (effect_of setup me s from turn body)
+fit_effect setup me s from turn (Body.Req lock mode «have») waits brings records lines =
     fit_grants setup me (with_request s from turn lock mode «have») lock records lines
-fit_effect setup me s from turn (Body.Release lock mode version given) records lines =
+fit_effect setup me s from turn (Body.Release lock mode version given) waits brings records lines =
     fit_grants setup me (with_release setup s from turn lock mode version given) lock records lines
-fit_effect setup me s from turn (Body.Grant lock mode take version given) records lines = fit_none me _
-fit_effect setup me s from turn body records lines = fit_none me s
+fit_effect setup me s from turn (Body.Arrive bar epoch given) waits brings records lines =
+    fit_openings setup me (with_arrived s from turn bar given) bar (of_arrival s.barriers bar.0 from turn given (waits bar.0) brings) records lines
+fit_effect setup me s from turn (Body.Grant lock mode take version given) waits brings records lines = fit_none me _
+fit_effect setup me s from turn (Body.Opened bar epoch given) waits brings records lines = fit_none me _
+fit_effect setup me s from turn body waits brings records lines = fit_none me s
 
 -- one of two effects
 fit_either : {S : Type 0} (me : ℕ) (b : Bool) (x y : Effect S) → AreFit me x → AreFit me y → AreFit me (if b then x else y)
@@ -227,57 +226,65 @@ fit_either me true x y first second = first
 fit_either me false x y first second = second
 
 -- what a body does that comes
-fit_body : {S : Type 0} (setup : Setup) (me : ℕ) (s : Processor S) (from turn : ℕ) (body : Body) → s.tail.records ≡ [] → s.tail.lines ≡ [] → AreFit me (effect_of_body setup me s from turn body)
-fit_body setup me s from turn body records lines =
+fit_body : {S : Type 0} (setup : Setup) (me : ℕ) (s : Processor S) (from turn : ℕ) (body : Body) → HasLinesWaiting s → BringsLines body → s.tail.records ≡ [] → s.tail.lines ≡ [] → AreFit me (effect_of_body setup me s from turn body)
+fit_body setup me s from turn body waits brings records lines =
     fit_either me (counts s from turn body) (effect_of setup me s from turn body) (only s [])
-    (fit_effect setup me s from turn body records lines) (fit_none me s)
+    (fit_effect setup me s from turn body waits brings records lines) (fit_none me s)
 
 -- what a message does
-pub fit_message : {S : Type 0} (setup : Setup) (me : ℕ) (s : Processor S) (msg : Msg) → s.tail.records ≡ [] → s.tail.lines ≡ [] → AreFit me (effect_of_message setup me s msg)
-fit_message setup me s msg records lines =
-    let fit = fit_body setup me (with_carry s msg.from.0 msg.carry) msg.from.0 msg.carry.turn msg.body records lines in
+pub fit_message : {S : Type 0} (setup : Setup) (me : ℕ) (s : Processor S) (msg : Msg) → HasLinesWaiting s → BringsLines msg.body → s.tail.records ≡ [] → s.tail.lines ≡ [] → AreFit me (effect_of_message setup me s msg)
+fit_message setup me s msg waits brings records lines =
+    let fit = fit_body setup me (with_carry s msg.from.0 msg.carry) msg.from.0 msg.carry.turn msg.body waits brings records lines in
     record { sends = fit.sends; rebuilt = fit.rebuilt; note = fit.note }
 
-kept_release : {S : Type 0} (setup : Setup) (own : Own S) (lock : Lock) (held : Option Mode) (body : Body) → release_of setup own lock held ≡ Some body → IsKept body
-kept_release setup own lock None body is = cc
-kept_release setup own lock (Some Mode.Shared) body is =
-    let same : Body.Release lock Mode.Shared (own.versions lock.0) [] ≡ body = cc in subst IsKept same (kept_shared lock (own.versions lock.0))
-kept_release setup own lock (Some Mode.Excl) body is =
+-- a body that is told keeps each range and order, and brings a list of lines where it is an arrival
+abbrev IsTold : Body → Type 0
+IsTold body = IsKept body × BringsLines body
+
+told_release : {S : Type 0} (setup : Setup) (own : Own S) (lock : Lock) (held : Option Mode) (body : Body) → release_of setup own lock held ≡ Some body → IsTold body
+told_release setup own lock None body is = cc
+told_release setup own lock (Some Mode.Shared) body is =
+    let same : Body.Release lock Mode.Shared (own.versions lock.0) [] ≡ body = cc in subst IsTold same (kept_shared lock (own.versions lock.0), tt)
+told_release setup own lock (Some Mode.Excl) body is =
     let same : Body.Release lock Mode.Excl (own.versions lock.0 + 1) (lines_where setup.bindings own.dirty own.copy (Object.Lock lock)) ≡ body = cc in
-    subst IsKept same (kept_exclusive lock (own.versions lock.0 + 1) _ (kept_where setup.bindings own.dirty own.copy (Object.Lock lock)))
+    subst IsTold same (kept_exclusive lock (own.versions lock.0 + 1) _ (kept_where setup.bindings own.dirty own.copy (Object.Lock lock)), tt)
 
 -- what a turn tells
-kept_told : {S : Type 0} (setup : Setup) (own : Own S) (label : Label) (body : Body) → body_of setup own label ≡ Some body → IsKept body
-kept_told setup own (Label.Ask lock mode) body is =
-    let same : Body.Req lock mode (own.versions lock.0) ≡ body = cc in subst IsKept same (kept_request lock mode (own.versions lock.0))
-kept_told setup own (Label.Give lock) body is = kept_release setup own lock (own.held lock.0) body is
-kept_told setup own Label.Quiet body is = cc
-kept_told setup own (Label.Load cell value) body is = cc
-kept_told setup own (Label.Store cell value) body is = cc
-kept_told setup own (Label.Take lock mode version) body is = cc
-kept_told setup own (Label.Arrive bar) body is = cc
-kept_told setup own (Label.Cross bar epoch) body is = cc
-kept_told setup own (Label.Line text) body is = cc
-kept_told setup own Label.End body is = cc
-kept_told setup own (Label.Stop fault line) body is = cc
+told_by : {S : Type 0} (setup : Setup) (own : Own S) (label : Label) (body : Body) → body_of setup own label ≡ Some body → IsTold body
+told_by setup own (Label.Ask lock mode) body is =
+    let same : Body.Req lock mode (own.versions lock.0) ≡ body = cc in subst IsTold same (kept_request lock mode (own.versions lock.0), tt)
+told_by setup own (Label.Give lock) body is = told_release setup own lock (own.held lock.0) body is
+told_by setup own (Label.Arrive bar) body is =
+    let given = lines_where setup.bindings own.dirty own.copy (Object.Bar bar) in
+    let are : are_lines given ≡ true = where_are_lines setup.bindings own.dirty own.copy (Object.Bar bar) in
+    let same : Body.Arrive bar (own.crossed bar.0) given ≡ body = cc in
+    subst IsTold same (kept_arrival bar (own.crossed bar.0) given are, are)
+told_by setup own Label.Quiet body is = cc
+told_by setup own (Label.Load cell value) body is = cc
+told_by setup own (Label.Store cell value) body is = cc
+told_by setup own (Label.Take lock mode version) body is = cc
+told_by setup own (Label.Cross bar epoch) body is = cc
+told_by setup own (Label.Line text) body is = cc
+told_by setup own Label.End body is = cc
+told_by setup own (Label.Stop fault line) body is = cc
 
-fit_told_to : {S : Type 0} (setup : Setup) (me : ℕ) (s : Processor S) (body : Body) (keeper : Option ℕ) → IsKept body → s.tail.records ≡ [] → s.tail.lines ≡ [] → AreFit me (effect_of_telling_to setup me s body keeper)
-fit_told_to setup me s body None kept records lines = fit_none me s
-fit_told_to setup me s body (Some keeper) kept records lines = by (keeper == me) refl
+fit_told_to : {S : Type 0} (setup : Setup) (me : ℕ) (s : Processor S) (body : Body) (keeper : Option ℕ) → IsTold body → HasLinesWaiting s → s.tail.records ≡ [] → s.tail.lines ≡ [] → AreFit me (effect_of_telling_to setup me s body keeper)
+fit_told_to setup me s body None told waits records lines = fit_none me s
+fit_told_to setup me s body (Some keeper) told waits records lines = by (keeper == me) refl
   where
     by : (b : Bool) → (keeper == me) ≡ b → AreFit me (if b then effect_of_body setup me s me s.own.turns body else only s (message me s keeper body ∷ []))
-    by true is = fit_body setup me s me s.own.turns body records lines
+    by true is = fit_body setup me s me s.own.turns body waits told.1 records lines
     by false is = fit_only me s (message me s keeper body ∷ [])
-        (All-cons (IsFit me) (message me s keeper body) [] (record { from = refl; other = is; records = records; lines = lines; body = kept }) (All-nil (IsFit me)))
+        (All-cons (IsFit me) (message me s keeper body) [] (record { from = refl; other = is; records = records; lines = lines; body = told.0 }) (All-nil (IsFit me)))
 
-fit_told : {S : Type 0} (setup : Setup) (me : ℕ) (s : Processor S) (told : Option Body) → ((body : Body) → told ≡ Some body → IsKept body) → s.tail.records ≡ [] → s.tail.lines ≡ [] → AreFit me (effect_of_telling setup me s told)
-fit_told setup me s None kept records lines = fit_none me s
-fit_told setup me s (Some body) kept records lines = fit_told_to setup me s body (keeper_of setup body) (kept body refl) records lines
+fit_told : {S : Type 0} (setup : Setup) (me : ℕ) (s : Processor S) (told : Option Body) → ((body : Body) → told ≡ Some body → IsTold body) → HasLinesWaiting s → s.tail.records ≡ [] → s.tail.lines ≡ [] → AreFit me (effect_of_telling setup me s told)
+fit_told setup me s None is waits records lines = fit_none me s
+fit_told setup me s (Some body) is waits records lines = fit_told_to setup me s body (keeper_of setup body) (is body refl) waits records lines
 
 -- what a turn does
-pub fit_turn : {S : Type 0} (setup : Setup) (threads : Semantics S) (me : ℕ) (s : Processor S) (turn : OwnTurn) → s.tail.records ≡ [] → s.tail.lines ≡ [] → AreFit me (effect_of_turn setup threads me s turn)
-fit_turn setup threads me s turn records lines =
-    let fit = fit_told setup me (processor_after setup threads s turn) (body_of setup s.own turn.label) (kept_told setup s.own turn.label) records lines in
+pub fit_turn : {S : Type 0} (setup : Setup) (threads : Semantics S) (me : ℕ) (s : Processor S) (turn : OwnTurn) → HasLinesWaiting s → s.tail.records ≡ [] → s.tail.lines ≡ [] → AreFit me (effect_of_turn setup threads me s turn)
+fit_turn setup threads me s turn waits records lines =
+    let fit = fit_told setup me (processor_after setup threads s turn) (body_of setup s.own turn.label) (told_by setup s.own turn.label) waits records lines in
     record { sends = fit.sends; rebuilt = fit.rebuilt; note = fit.note }
 
 -- what such an effect sends can be sent

@@ -15,7 +15,7 @@ use Rattle.dsm_msg.specs.declared.message.Msg.{Msg}
 use Rattle.dsm_net.specs.Processor.{Processor, start_processor}
 use Rattle.dsm_net.specs.Turns.{OwnTurn, own_turn}
 use Rattle.dsm_net.specs.Effects.{effect_of_message, effect_of_turn}
-use Rattle.dsm_processor.specs.Names.{IsSendOf}
+use Rattle.dsm_processor.specs.Names.{BodyNames, IsSendOf}
 use Rattle.dsm_processor.specs.Node as nodes
 use Rattle.dsm_processor.specs.Node.{processor_of, processor_stepped, stepped_by, effects_of, IsWhole, IsSameNode}
 use Rattle.dsm_processor.specs.declared.node.Node.{Node}
@@ -25,7 +25,8 @@ use Rattle.dsm_network.specs.Nodes.{IsNodeOf}
 use Rattle.dsm_network.specs.World.{setup_of, first_of, processor_at, net_of, turn_of, with_node, IsShaped}
 use Rattle.dsm_network.specs.Effects.{AreSendable}
 use Rattle.dsm_network.specs.declared.world.World.{World}
-use Rattle.dsm_network.proofs.Orders.{fit_message, fit_turn, fit_sends}
+use Rattle.dsm_network.proofs.BarrierLines.{of_manager}
+use Rattle.dsm_network.proofs.Orders.{brings_lines, fit_message, fit_turn, fit_sends}
 
 -- a setup has at most 16 processors
 pub few_procs : (setup : Setup) → setup.procs ≤ 16
@@ -102,12 +103,12 @@ module _ {T S : Type 0} (kind : Kind T S) (setup : Setup) (p : ℕ) (within : p 
       (subst (λ s. All (IsSendOf s (nodes.me_of node)) effects.sends) is.is_setup are)
 
   -- for a message that it handled
-  pub handled_result : (msg : Msg) (result : Result Effects MemFault) → IfOk result (λ effects. effects ≡ effects_of (effect_of_message (nodes.setup_of node) (nodes.me_of node) (processor_of kind node) msg))
+  pub handled_result : (msg : Msg) (result : Result Effects MemFault) → BodyNames setup msg.body → IfOk result (λ effects. effects ≡ effects_of (effect_of_message (nodes.setup_of node) (nodes.me_of node) (processor_of kind node) msg))
       → IfOk result (λ effects. All (IsSendOf (nodes.setup_of node) (nodes.me_of node)) effects.sends) → IfOk result (AreSendable setup)
-  handled_result msg (Err error) are all = tt
-  handled_result msg (Ok effects) are all =
+  handled_result msg (Err error) names are all = tt
+  handled_result msg (Ok effects) names are all =
       fit_sends setup p (effect_of_message setup p (processor_of kind node) msg) effects (few_procs setup) within
-      (fit_message setup p (processor_of kind node) msg refl refl)
+      (fit_message setup p (processor_of kind node) msg (of_manager node.manager) (brings_lines setup msg.body names) refl refl)
       (are ∙ (λ i. effects_of (effect_of_message (is.is_setup i) (is.is_me i) (processor_of kind node) msg))) (sends_of effects all)
 
   -- for a turn
@@ -118,7 +119,7 @@ module _ {T S : Type 0} (kind : Kind T S) (setup : Setup) (p : ℕ) (within : p 
   turn_sendable (Some turn) (Some one) are all =
       let same : one.effects ≡ effects_of (effect_of_turn setup kind.semantics p (processor_of kind node) turn) = cc in
       fit_sends setup p (effect_of_turn setup kind.semantics p (processor_of kind node) turn) one.effects (few_procs setup) within
-      (fit_turn setup kind.semantics p (processor_of kind node) turn refl refl) same (sends_of one.effects all)
+      (fit_turn setup kind.semantics p (processor_of kind node) turn (of_manager node.manager) refl refl) same (sends_of one.effects all)
 
   pub turn_result : (result : Result (Option Stepped) MemFault)
       → IfOk result (λ stepped. stepped ≡ stepped_by (nodes.setup_of node) kind.semantics (nodes.me_of node) (processor_of kind node) (own_turn (nodes.setup_of node) kind.semantics (nodes.me_of node) (processor_of kind node)))

@@ -60,8 +60,8 @@ module _ {M T S : Type 0} (kind : Kind T S) (first : M → ℕ → ℕ → S) (w
       count = nodes.count_is;
       nodes = nodes.each;
       channels = channels;
-      letters = λ from to. subst (λ (family : ℕ → ℕ → List Letter). All (λ (letter : Letter). IsReceivable (setup_of world) letter.msg) (family from to))
-          (sym letters) (All-nil (λ (letter : Letter). IsReceivable (setup_of world) letter.msg));
+      letters = λ from to. subst (λ (family : ℕ → ℕ → List Letter). All (λ (letter : Letter). IsReceivable (setup_of world) to letter.msg) (family from to))
+          (sym letters) (All-nil (λ (letter : Letter). IsReceivable (setup_of world) to letter.msg));
       out = ap length out ∙ length-replicate (setup_of world).procs 0;
     };
     done = [];

@@ -1,22 +1,26 @@
 -- What is true of all letters under way, after one is sent or taken out.
-use Rattle.std.proofs.Common.{◌≡◌, ◌==◌, ℕ, Bool, true, false, if◌then◌else◌, List, [], ◌∷◌, Option, Some, None, Result, Ok, Err, sym, subst}
+use Rattle.std.proofs.Common.{◌≡◌, ◌==◌, ℕ, Bool, true, false, if◌then◌else◌, List, [], ◌∷◌, Option, Some, None, Result, Ok, Err, sym, subst, inl, inr}
 use Rattle.std.specs.Prelude.{⊤, IfOk, OnErr, IfSome, MatchOption}
 use Rattle.std.specs.List.{All}
+use Rattle.std.proofs.lemmas.Bool.Decides.{eqb_tells}
 use Rattle.std.proofs.lemmas.List.Elements.{All-head, All-tail}
 use Rattle.dsm_base.specs.Family.{update, update_at}
 use Rattle.dsm_base.specs.declared.errors.MemFault.{MemFault}
 use Rattle.dsm_net.specs.declared.trace.Letter.{Letter}
 
--- of all members of a family of families with one replaced
-pub updated : {A : Type 0} (P : A → Type 0) (f : ℕ → ℕ → A) (k l : ℕ) (v : A) → ((i j : ℕ) → P (f i j)) → P v → (i j : ℕ) → P (update_at f k l v i j)
+-- of all members of a family of families with one replaced, by their second numbers
+pub updated : {A : Type 0} (P : ℕ → A → Type 0) (f : ℕ → ℕ → A) (k l : ℕ) (v : A) → ((i j : ℕ) → P j (f i j)) → P l v → (i j : ℕ) → P j (update_at f k l v i j)
 updated P f k l v all is i j = by (i == k)
   where
-    second : (b : Bool) → P (if b then v else f k j)
-    second true = is
-    second false = all k j
+    second : P j (update (f k) l v j)
+    second =
+        elim (eqb_tells j l) as (λ _. P j (update (f k) l v j)) [
+          | inl (same, is_l) ↦ rw same (subst (λ q. P q v) (sym is_l) is)
+          | inr (differs, _) ↦ rw differs (all k j)
+        ]
 
-    by : (b : Bool) → P ((if b then update (f k) l v else f i) j)
-    by true = second (j == l)
+    by : (b : Bool) → P j ((if b then update (f k) l v else f i) j)
+    by true = second
     by false = all i j
 
 -- the oldest letter of a channel, and what is left of it

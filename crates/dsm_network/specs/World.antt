@@ -17,7 +17,7 @@ use Rattle.dsm_net.specs.Net.{Net}
 use Rattle.dsm_net.specs.Units.{Made, unit_of, went}
 use Rattle.dsm_net.specs.Fits.{Done, run_of}
 use Rattle.dsm_channels.specs.Channels.{under_way, proc_count}
-use Rattle.dsm_processor.specs.Names.{BodyNames}
+use Rattle.dsm_processor.specs.Names.{BodyNames, IsKeptBy}
 use Rattle.dsm_processor.specs.Node.{processor_of}
 use Rattle.dsm_processor.specs.declared.node.Node.{Node}
 use Rattle.dsm_network.specs.Nodes.{IsNodeOf}
@@ -80,16 +80,18 @@ with_node net p s = record net { processors = update net.processors p (Some s) }
 abbrev pub with_letters : {S : Type 0} → Net S → ℕ → ℕ → List Letter → Net S
 with_letters net from to letters = record net { channels = update_at net.channels from to letters }
 
--- a message that a processor of the setup can handle
-pub record IsReceivable (setup : Setup) (msg : Msg) : Type 0 where
+-- a message that this processor of the setup can handle
+pub record IsReceivable (setup : Setup) (p : ℕ) (msg : Msg) : Type 0 where
   pub from : msg.from.0 < setup.procs
   pub names : BodyNames setup msg.body
+  pub kept : IsKeptBy setup p msg.body
 
 -- a message that can be sent between processors of the setup
 pub record IsSendable (setup : Setup) (msg : Msg) : Type 0 where
   pub from : msg.from.0 < setup.procs
   pub to : msg.to.0 < setup.procs
   pub names : BodyNames setup msg.body
+  pub kept : IsKeptBy setup msg.to.0 msg.body
   pub in_order : IsInOrder msg
 
 -- there is a node for each processor, and a channel for each two, with messages that can be handled
@@ -99,7 +101,7 @@ pub record IsShaped {M T S : Type 0} (kind : Kind T S) (world : World M T S) : T
       IsNodeOf kind world.setup.value p (slice_index_or world.nodes.items p default)
   pub channels : proc_count world.channels ≡ world.setup.value.procs
   pub letters : (from to : ℕ) →
-      All (λ letter. IsReceivable world.setup.value letter.msg) (under_way world.channels from to)
+      All (λ letter. IsReceivable world.setup.value to letter.msg) (under_way world.channels from to)
   pub out : length world.out ≡ world.setup.value.procs
 
 -- these units, the newest first, make what the world holds, and its trace

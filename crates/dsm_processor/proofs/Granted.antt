@@ -30,7 +30,7 @@ abbrev pub granted_at : {S : Type 0} → Processor S → Lock → Processor S
 granted_at s lock = record s { locks = update s.locks lock.0 (lock_after_grants (s.locks lock.0)) }
 
 -- a member that is changed twice
-change_twice : {A : Type 0} (family : ℕ → A) (k : ℕ) (item : A) (change : A → A) → update family k (change item) ≡ update (update family k item) k (change (update family k item k))
+pub change_twice : {A : Type 0} (family : ℕ → A) (k : ℕ) (item : A) (change : A → A) → update family k (change item) ≡ update (update family k item) k (change (update family k item k))
 change_twice family k item change =
     sym (ap (λ one. update (update family k item) k (change one)) (update_same family k item) ∙ update_twice family k item (change item))
 

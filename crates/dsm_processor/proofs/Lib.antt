@@ -2,7 +2,9 @@ pub mod Places
 pub mod Left
 pub mod Known
 pub mod Numbered
+pub mod Rising
 pub mod Granted
+pub mod Opened
 pub mod Names
 pub mod Whole
 pub mod Turns

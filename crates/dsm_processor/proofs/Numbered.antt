@@ -9,7 +9,7 @@ use Rattle.dsm_lines.specs.declared.list.Line.{Line}
 use Rattle.dsm_lines.specs.Places.{lines, line_count, same_object, lines_from}
 use Rattle.dsm_lines.specs.Copies.{AreNumbered, line_with, lines_where}
 
-range_within : (start count end : ℕ) → start + count ≤ end → All (λ line. line < end) (range_with_len start count)
+pub range_within : (start count end : ℕ) → start + count ≤ end → All (λ line. line < end) (range_with_len start count)
 range_within start count end within k d below =
     let inside : k < count = omega (arith, length-range_with_len start count) in
     rw (get_or-range_with_len start count k d inside) (omega arith)

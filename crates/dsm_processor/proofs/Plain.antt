@@ -1,12 +1,12 @@
 -- What a body or a telling does: it sends messages, and nothing else goes out.
-use Rattle.std.proofs.Common.{◌≡◌, ◌==◌, ℕ, false, nat_lt, List, [], ◌∷◌, Option, Some, None, refl, sym, ◌∙◌}
+use Rattle.std.proofs.Common.{◌≡◌, ◌==◌, ℕ, false, List, [], ◌∷◌, Option, Some, None, refl, sym, ◌∙◌}
 use Rattle.dsm_base.specs.declared.lists.PendingLine.{PendingLine}
 use Rattle.dsm_base.specs.declared.setup.Setup.{Setup}
 use Rattle.dsm_msg.specs.declared.message.Body.{Body}
 use Rattle.dsm_msg.specs.declared.message.Msg.{Msg}
 use Rattle.dsm_net.specs.Processor.{Processor}
 use Rattle.dsm_net.specs.Messages.{keeper_of, message}
-use Rattle.dsm_net.specs.Effects.{Effect, only, counts, with_request, with_release, effect_of_grants, effect_of_body, effect_of_telling_to, effect_of_telling}
+use Rattle.dsm_net.specs.Effects.{Effect, only, counts, with_request, with_release, with_arrived, effect_of_openings, effect_of_grants, effect_of_body, effect_of_telling_to, effect_of_telling}
 use Rattle.dsm_processor.specs.declared.node.Effects.{Effects}
 use Rattle.dsm_processor.specs.Node.{effects_of}
 use Rattle.dsm_processor.proofs.Names.{either}
@@ -27,7 +27,8 @@ plain_body setup me s from turn (Body.Req lock mode «have») =
 plain_body setup me s from turn (Body.Release lock mode version lines) =
     either IsPlain (counts s from turn (Body.Release lock mode version lines)) (effect_of_grants setup me (with_release setup s from turn lock mode version lines) lock) (only s []) (plain_only _ _) (plain_only s [])
 plain_body setup me s from turn (Body.Arrive bar epoch lines) =
-    either IsPlain (nat_lt (s.peers from).last turn) (only s []) (only s []) (plain_only s []) (plain_only s [])
+    either IsPlain (counts s from turn (Body.Arrive bar epoch lines)) (effect_of_openings setup me (with_arrived s from turn bar lines) bar) (only s []) (plain_only _ _) (plain_only s [])
+plain_body setup me s from turn (Body.Opened bar epoch lines) = record { carried = refl; replayed = refl; rebuilt = refl; outs = refl; note = refl }
 plain_body setup me s from turn (Body.Grant lock mode take version lines) = record { carried = refl; replayed = refl; rebuilt = refl; outs = refl; note = refl }
 plain_body setup me s from turn _ = plain_only s []
 

@@ -23,6 +23,7 @@ use Rattle.dsm_processor.specs.Copy.{given_lines}
 use Rattle.dsm_processor.specs.Names.{BodyNames, LabelNames}
 use Rattle.dsm_processor.specs.Node.{number_for, input_lines, label_for, release_with, body_with}
 use Rattle.dsm_processor.proofs.Numbered.{are_numbered}
+use Rattle.dsm_processor.proofs.Rising.{where_are_lines}
 
 -- a label of this want: it names what is of the setup, and answers the want
 pub record IsLabelFor (setup : Setup) (want : Want) (label : Label) : Type 0 where
@@ -109,7 +110,7 @@ module _ {S : Type 0} (setup : Setup) (threads : Semantics S) (me : ℕ) (s : Pr
 -- What a turn tells.
 
 -- by its lines that go to others
-pub body_is : {S : Type 0} (setup : Setup) (own : Own S) (label : Label) → body_with own.versions own.held label (given_lines setup.bindings own.dirty own.copy label) ≡ body_of setup own label
+pub body_is : {S : Type 0} (setup : Setup) (own : Own S) (label : Label) → body_with own.versions own.held own.crossed label (given_lines setup.bindings own.dirty own.copy label) ≡ body_of setup own label
 body_is setup own (Label.Give lock) = by (own.held lock.0)
   where
     by : (held : Option Mode) → release_with own.versions lock held (given_lines setup.bindings own.dirty own.copy (Label.Give lock)) ≡ release_of setup own lock held
@@ -140,7 +141,7 @@ body_names setup own Label.Quiet names = tt
 body_names setup own (Label.Load cell value) names = tt
 body_names setup own (Label.Store cell value) names = tt
 body_names setup own (Label.Take lock mode version) names = tt
-body_names setup own (Label.Arrive bar) names = tt
+body_names setup own (Label.Arrive bar) names = (names.bars, where_are_lines setup.bindings own.dirty own.copy (Object.Bar bar))
 body_names setup own (Label.Cross bar epoch) names = tt
 body_names setup own (Label.Line text) names = tt
 body_names setup own Label.End names = tt

@@ -1,5 +1,5 @@
 -- A processor as contracts see it.
-use Rattle.std.specs.Prelude.{◌≡◌, ℕ, ◌+◌, ◌<◌, false, List, [], length, Option, Some, None, option_map}
+use Rattle.std.specs.Prelude.{◌≡◌, ℕ, ◌+◌, ◌<◌, ◌≤◌, false, List, [], length, Option, Some, None, option_map}
 use Rattle.dsm_base.specs.declared.names.Lock.{Lock}
 use Rattle.dsm_base.specs.declared.names.Mode.{Mode}
 use Rattle.dsm_base.specs.declared.label.Want.{Want}
@@ -13,6 +13,7 @@ use Rattle.dsm_lines.specs.declared.list.Line.{Line}
 use Rattle.dsm_lines.specs.OwnCopies.{copy_pieces, copy_memory, copy_marks}
 use Rattle.dsm_msg.specs.declared.message.Body.{Body}
 use Rattle.dsm_home.specs.Homes.{home_state, home_pieces, lock_count}
+use Rattle.dsm_barrier.specs.Managers.{barriers_of, last_of, bar_count}
 use Rattle.dsm_net.specs.Processor.{Own, Processor, live}
 use Rattle.dsm_net.specs.Inputs.{Input, input_for}
 use Rattle.dsm_net.specs.Turns.{OwnTurn, own_view, own_versions_after}
@@ -42,10 +43,10 @@ own_of kind node = record {
 abbrev pub processor_of : {T S : Type 0} → Kind T S → Node T S → Processor S
 processor_of kind node = record {
   own = own_of kind node;
-  mail = record { grants = node.mail; openings = [] };
+  mail = node.mail;
   locks = (home_state node.home).locks;
   lines = record { stamps = (home_state node.home).stamps; values = (home_state node.home).values };
-  barriers = λ bar q. record { count = 0; brought = [] };
+  barriers = barriers_of node.manager;
   peers = peers_of node.peers;
   tail = record { known = node.known; records = []; lines = []; noted = false };
   logs = record {
@@ -76,6 +77,10 @@ pub record IsShaped {T S : Type 0} (node : Node T S) : Type 0 where
   pub locks : lock_count node.home ≡ node.setup.value.locks
   pub lines : home_pieces node.home ≡ node.setup.value.bindings
   pub peers : peer_count node.peers ≡ node.setup.value.procs
+  pub manager : node.manager.me ≡ node.me
+  pub procs : node.manager.procs ≡ node.setup.value.procs
+  pub bars : bar_count node.manager ≡ node.setup.value.bars
+  pub arrivals : (p : ℕ) → last_of node.manager p ≤ (peers_of node.peers p).last
 
 -- besides, all that its thread will name is of the setup, and so is who waits
 pub record IsWhole {T S : Type 0} (kind : Kind T S) (node : Node T S) : Type 0 where
@@ -139,10 +144,11 @@ release_with versions lock None given = None
 release_with versions lock (Some Mode.Shared) given = Some (Body.Release lock Mode.Shared (versions lock.0) [])
 release_with versions lock (Some Mode.Excl) given = Some (Body.Release lock Mode.Excl (versions lock.0 + 1) given)
 
-abbrev pub body_with : (ℕ → ℕ) → (ℕ → Option Mode) → Label → List Line → Option Body
-body_with versions held (Label.Ask lock mode) given = Some (Body.Req lock mode (versions lock.0))
-body_with versions held (Label.Give lock) given = release_with versions lock (held lock.0) given
-body_with versions held _ given = None
+abbrev pub body_with : (ℕ → ℕ) → (ℕ → Option Mode) → (ℕ → ℕ) → Label → List Line → Option Body
+body_with versions held crossed (Label.Ask lock mode) given = Some (Body.Req lock mode (versions lock.0))
+body_with versions held crossed (Label.Give lock) given = release_with versions lock (held lock.0) given
+body_with versions held crossed (Label.Arrive bar) given = Some (Body.Arrive bar (crossed bar.0) given)
+body_with versions held crossed _ given = None
 
 -- the processor after a turn of this label, but for its copy of the cells and its mailbox
 abbrev pub advanced : {S : Type 0} → Semantics S → Processor S → Label → Processor S

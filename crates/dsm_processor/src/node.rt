@@ -2,12 +2,14 @@
 
 ghost use Rattle.std.specs.Prelude.{◌≡◌, ◌<◌, None, IfOk};
 
+mod arrivals;
 mod bodies;
 mod turn;
 
 use crate::mailbox::Mailbox;
 use crate::peers::Peers;
 use crate::versions::zero_versions;
+use dsm_barrier::Manager;
 use dsm_base::{Ending, Label, MemFault, Numbers, Pending, Proc, Rights, Setup, Task};
 use dsm_home::Home;
 use dsm_lines::{BindTable, LineList, OwnCopy};
@@ -51,6 +53,7 @@ pub struct Node<T: Task> {
     ending: Option<Ending>,
     mail: Mailbox,
     home: Home,
+    manager: Manager,
     peers: Peers,
     known: u32,
 }
@@ -83,6 +86,7 @@ impl<T: Task> Node<T> {
         let peers = Peers::new(alloc, setup.procs)?;
         let copy = OwnCopy::new(alloc, table.clone()?)?;
         let mail = Mailbox::new(alloc);
+        let manager = Manager::new(alloc, me, &setup)?;
         Ok(Node {
             alloc,
             setup,
@@ -96,6 +100,7 @@ impl<T: Task> Node<T> {
             ending: None,
             mail,
             home,
+            manager,
             peers,
             known: 0,
         })

@@ -10,7 +10,7 @@ use Rattle.dsm_base.specs.declared.names.Proc.{Proc}
 use Rattle.dsm_base.specs.declared.act.Act.{Act}
 use Rattle.dsm_base.specs.declared.act.SchedErr.{SchedErr}
 use Rattle.dsm_sched.specs.Words.{Row}
-use Rattle.dsm_sched.specs.Entries.{◌>>=◌, Gives, is_count, entry_at, all_or_refusal, begins_with, procs_at, headed, first_line}
+use Rattle.dsm_sched.specs.Entries.{◌>>=◌, Gives, is_count, entry_at, all_or_refusal, begins_with, procs_at, headed}
 use Rattle.dsm_sched.specs.declared.schedule.Entry.{Entry}
 use Rattle.dsm_sched.specs.declared.schedule.form.Form.{Form}
 use Rattle.dsm_sched.specs.Schedules.{is_act, is_entry}
@@ -178,11 +178,11 @@ second (Ok head) = head.1
 second (Err error) = []
 
 -- what can't be run yet, by the rows behind the first
-pub unbuilt_behind : (rows rest : List Row) (procs line : ℕ) (entries : List Entry) → headed rows ≡ Ok (procs, rest) → first_line rows ≡ Some line
-    → unbuilt_in rows procs entries ≡ cond (procs == 2) (unbuilt_line rest entries) (Some line)
-unbuilt_behind [] rest procs line entries head at = cc
-unbuilt_behind (first ∷ rows) rest procs line entries head at =
-    ap₂ (λ rows line. cond (procs == 2) (unbuilt_line rows entries) line) (by (begins_with (codes "procs") first.words) head) at
+pub unbuilt_behind : (rows rest : List Row) (procs : ℕ) (entries : List Entry) → headed rows ≡ Ok (procs, rest)
+    → unbuilt_in rows entries ≡ unbuilt_line rest entries
+unbuilt_behind [] rest procs entries head = cc
+unbuilt_behind (first ∷ rows) rest procs entries head =
+    ap (λ rows. unbuilt_line rows entries) (by (begins_with (codes "procs") first.words) head)
   where
     by_count : (count : Result ℕ SchedErr) → (count >>= with_rows rows) ≡ Ok (procs, rest) → rows ≡ rest
     by_count (Ok count) is = ap second is

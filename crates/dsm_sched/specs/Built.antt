@@ -1,5 +1,5 @@
--- Which schedules can be run yet: those of two processors that never crash, and without images.
-use Rattle.std.specs.Prelude.{ℕ, Bool, true, false, ◌==◌, if◌then◌else◌, List, [], ◌∷◌, Option, Some, None, Result, Ok, Err}
+-- Which schedules can be run yet: those without crashes and images.
+use Rattle.std.specs.Prelude.{ℕ, Bool, true, false, if◌then◌else◌, List, [], ◌∷◌, Option, Some, None, Result, Ok, Err}
 use Rattle.dsm_base.specs.declared.act.Act.{Act}
 use Rattle.dsm_base.specs.declared.act.SchedErr.{SchedErr}
 use Rattle.dsm_sched.specs.Words.{Row, rows_of}
@@ -28,10 +28,10 @@ abbrev pub unbuilt_line : List Row → List Entry → Option ℕ
 unbuilt_line (row ∷ rows) (entry ∷ entries) = if is_built entry then unbuilt_line rows entries else Some row.line
 unbuilt_line _ _ = None
 
--- the same with the first entry, which says how many processors there are
-abbrev pub unbuilt_in : List Row → ℕ → List Entry → Option ℕ
-unbuilt_in [] procs entries = None
-unbuilt_in (first ∷ rows) procs entries = if procs == 2 then unbuilt_line rows entries else Some first.line
+-- the same behind the first row, which says how many processors there are
+abbrev pub unbuilt_in : List Row → List Entry → Option ℕ
+unbuilt_in [] entries = None
+unbuilt_in (first ∷ rows) entries = unbuilt_line rows entries
 
 -- what is said, unless such a line is told
 abbrev pub unless : Option ℕ → ℕ × List Entry → Result (ℕ × List Entry) SchedErr
@@ -40,4 +40,4 @@ unless (Some line) said = Err (SchedErr.NotBuilt line)
 
 -- what a text says as a schedule that can be run
 abbrev pub built_said : List ℕ → Result (ℕ × List Entry) SchedErr
-built_said text = schedule_said text >>= λ said. unless (unbuilt_in (rows_of text) said.0 said.1) said
+built_said text = schedule_said text >>= λ said. unless (unbuilt_in (rows_of text) said.1) said

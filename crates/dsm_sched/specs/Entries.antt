@@ -70,11 +70,6 @@ procs_form _ = None
 abbrev pub procs_at : Row → Result ℕ SchedErr
 procs_at row = entry_at row.line (procs_form row.words) (λ procs. if is_proc_count procs then Some procs else None)
 
--- the line of the first row
-abbrev pub first_line : List Row → Option ℕ
-first_line [] = None
-first_line (first ∷ rows) = Some first.line
-
 -- how many processors, and the rows behind the first, which is `procs N`
 abbrev pub headed : List Row → Result (ℕ × List Row) SchedErr
 headed [] = Err SchedErr.NoProcs

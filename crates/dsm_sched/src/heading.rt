@@ -3,7 +3,7 @@
 ghost use Rattle.std.specs.Prelude.{◌≡◌, ◌<◌, ◌≤◌, length, map, codes, IfOk, MatchResult, IsTrue};
 ghost use Rattle.dsm_base.specs.Setups.{is_proc_count};
 ghost use Rattle.dsm_sched.specs.Words.{rows_left};
-ghost use Rattle.dsm_sched.specs.Entries.{Gives, begins_with, procs_form, procs_at, first_line, headed, too_long};
+ghost use Rattle.dsm_sched.specs.Entries.{Gives, begins_with, procs_form, procs_at, headed, too_long};
 
 use crate::rows::{Row, Rows};
 use crate::words::number;
@@ -48,20 +48,12 @@ fn procs_at(row: &Row<'_>) -> Result<u8, SchedErr>
     }
 }
 
-/// The first entry, `procs N`, and its line.
-#[derive(Clone, Copy)]
-pub(crate) struct Heading {
-    pub procs: u8,
-    pub line: u32,
-}
-
 /// Reads the first entry, `procs N`. `NoProcs` where no row is left or the first doesn't begin with
 /// `procs`, `BadEntry` where it isn't `procs N`, `OutOfRange` where N isn't 2 to 16.
-pub(crate) fn read_heading(alloc: Global, rows: &mut Rows<'_>) -> Result<Heading, SchedErr>
-    ensures said { Gives (λ heading. (heading.procs, rows_left rows.new)) result
+pub(crate) fn read_heading(alloc: Global, rows: &mut Rows<'_>) -> Result<u8, SchedErr>
+    ensures said { Gives (λ procs. (procs, rows_left rows.new)) result
         (headed (rows_left rows.old)) }
-    ensures count { IfOk result (λ heading. IsTrue (is_proc_count heading.procs)) }
-    ensures line { IfOk result (λ heading. first_line (rows_left rows.old) ≡ Some heading.line) }
+    ensures count { IfOk result (λ procs. IsTrue (is_proc_count procs)) }
 {
     let Some(row) = rows.next(alloc)? else {
         return Err(SchedErr::NoProcs);
@@ -69,11 +61,7 @@ pub(crate) fn read_heading(alloc: Global, rows: &mut Rows<'_>) -> Result<Heading
     if !begins_with_procs(row.words()) {
         return Err(SchedErr::NoProcs);
     }
-    let procs = procs_at(&row)?;
-    Ok(Heading {
-        procs,
-        line: row.line(),
-    })
+    procs_at(&row)
 }
 
 /// Tests that a text isn't too long to be read: `TooLong` where it has over 4,194,304 bytes.

@@ -7,45 +7,55 @@ use sqlite_items::Items;
 use std::alloc::Global;
 use std::test::Fail;
 
-/// All before the digest of an image of processor 1 after seven turns: it holds lock 0, whose one cell
-/// is 5, has a grant of turn 8 in its mailbox, and has printed a line that isn't safe.
-const FRONT: [u8; 176] = [
-    68, 83, 77, 49, 0, 0, 0, 176, 1, 2, 0, 0, 0, 7, 0, 0, 0, 3, 97, 98, 99, 0, 0, 0, 2, 0, 0, 0, 0,
-    0, 0, 0, 5, 0, 0, 0, 0, 0, 0, 0, 0, 0, 0, 0, 1, 0, 0, 0, 0, 0, 0, 0, 1, 0, 0, 0, 3, 2, 0, 0, 0,
-    0, 1, 0, 0, 0, 1, 0, 0, 0, 1, 0, 0, 0, 1, 0, 0, 0, 8, 0, 0, 1, 0, 0, 0, 3, 0, 0, 0, 1, 0, 0, 0,
-    0, 1, 255, 255, 255, 255, 255, 255, 255, 254, 0, 0, 0, 0, 0, 0, 0, 4, 0, 0, 0, 0, 0, 0, 0, 6,
-    0, 0, 0, 1, 0, 0, 0, 7, 0, 0, 0, 0, 0, 2, 0, 0, 0, 1, 0, 0, 0, 7, 0, 2, 104, 105, 0, 0, 0, 1,
-    0, 0, 0, 0, 0, 1, 0, 0, 0, 1, 0, 0, 0, 0, 1, 0, 0, 0, 0, 0, 0, 0, 9, 0, 0, 0, 0,
+/// All before the digest of an image of processor 1 after seven turns. It holds lock 0, whose one cell
+/// is 5, has a grant of turn 8 in its mailbox, three bodies for processor 0 in its outbox, and a line
+/// that isn't safe. It is the home of lock 1, whose one cell is 6, and has logged two grants and a
+/// record for processor 0.
+const FRONT: [u8; 309] = [
+    68, 83, 77, 49, 0, 0, 1, 53, 1, 2, 0, 0, 0, 7, 0, 0, 0, 3, 97, 98, 99, 0, 0, 0, 3, 0, 0, 0, 0,
+    0, 0, 0, 5, 0, 0, 0, 0, 0, 0, 0, 6, 0, 0, 0, 0, 0, 0, 0, 0, 0, 0, 0, 1, 0, 0, 0, 0, 0, 0, 0, 2,
+    0, 0, 0, 3, 2, 0, 0, 0, 0, 0, 0, 0, 0, 0, 0, 1, 0, 0, 0, 1, 0, 0, 0, 1, 0, 0, 0, 1, 0, 0, 0, 8,
+    0, 0, 1, 0, 0, 0, 3, 0, 0, 0, 1, 0, 0, 0, 0, 1, 255, 255, 255, 255, 255, 255, 255, 254, 0, 0,
+    0, 0, 0, 0, 0, 4, 0, 0, 0, 0, 0, 0, 0, 3, 0, 0, 0, 5, 3, 0, 0, 1, 0, 0, 0, 4, 0, 0, 0, 1, 0, 0,
+    0, 0, 1, 0, 0, 0, 0, 0, 0, 0, 7, 0, 0, 0, 6, 4, 0, 0, 0, 0, 1, 0, 0, 0, 0, 0, 0, 0, 7, 1, 0, 0,
+    0, 0, 0, 0, 4, 0, 0, 0, 6, 0, 0, 0, 1, 0, 0, 0, 7, 0, 0, 0, 0, 0, 2, 0, 0, 0, 1, 0, 0, 0, 7, 0,
+    2, 104, 105, 0, 0, 0, 1, 0, 0, 0, 0, 0, 1, 0, 0, 0, 1, 0, 0, 0, 0, 1, 0, 0, 0, 0, 0, 0, 0, 9,
+    0, 0, 0, 0, 0, 0, 0, 2, 0, 0, 0, 2, 0, 0, 0, 0, 0, 0, 0, 6, 0, 0, 0, 2, 0, 0, 0, 3, 0, 1, 1, 0,
+    0, 0, 1, 0, 0, 0, 3, 0, 1, 0, 0, 0, 0, 2, 0, 0, 0, 0, 0, 0, 0, 1, 0, 0, 0, 2, 0, 1, 0, 0, 0, 1,
 ];
 
 /// The digest of these bytes.
 const DIGEST: [u8; 32] = [
-    252, 159, 5, 26, 161, 36, 210, 154, 76, 40, 156, 216, 216, 19, 89, 169, 195, 216, 153, 241,
-    222, 124, 117, 70, 248, 95, 52, 155, 124, 0, 206, 91,
+    186, 165, 236, 252, 241, 168, 167, 62, 218, 60, 37, 201, 122, 225, 63, 56, 128, 68, 82, 208,
+    92, 76, 211, 151, 220, 243, 154, 147, 10, 55, 125, 134,
 ];
 
 /// The digest of these bytes with the last one changed.
 const OTHER_DIGEST: [u8; 32] = [
-    185, 204, 126, 124, 118, 234, 11, 125, 161, 83, 160, 36, 49, 30, 250, 245, 13, 74, 71, 113,
-    216, 251, 13, 102, 199, 115, 90, 11, 115, 214, 139, 193,
+    24, 78, 73, 44, 169, 138, 134, 72, 9, 94, 13, 76, 16, 96, 20, 197, 89, 81, 238, 72, 97, 91, 89,
+    189, 129, 227, 44, 18, 114, 211, 136, 246,
 ];
 
-/// Two processors, a lock with cell 0, a barrier, and a cell in no piece.
-fn setup(alloc: Global) -> Result<Setup, MemFault> {
-    let piece = Piece {
-        object: Object::Lock(Lock(0)),
-        first: Cell(0),
+/// The cell of a lock.
+fn piece(lock: u16, cell: u32) -> Piece {
+    Piece {
+        object: Object::Lock(Lock(lock)),
+        first: Cell(cell),
         count: 1,
         owner: 0,
         phase: 0,
         period: 0,
-    };
+    }
+}
+
+/// Two processors, two locks with cells 0 and 1, a barrier, and a cell in no piece.
+fn setup(alloc: Global) -> Result<Setup, MemFault> {
     Ok(Setup {
         procs: 2,
-        locks: 1,
+        locks: 2,
         bars: 1,
-        cells: 2,
-        bindings: Items::from_slice(alloc, &[piece])?,
+        cells: 3,
+        bindings: Items::from_slice(alloc, &[piece(0, 0), piece(1, 1)])?,
     })
 }
 
@@ -71,7 +81,7 @@ fn changed(alloc: Global, place: usize, byte: u8) -> Result<Vec<u8>, MemFault> {
         front[place] = byte;
     }
     let digest = Sha256::digest(front.as_slice());
-    with_digest(alloc, front.as_slice(), digest.as_slice(), 304)
+    with_digest(alloc, front.as_slice(), digest.as_slice(), 171)
 }
 
 /// A place, the byte that is put there, and the place that is told.
@@ -83,29 +93,42 @@ const CHANGES: &[(usize, u8, u32)] = &[
     // A thread's state of more bytes than there are: the field of its bytes is cut.
     (15, 1, 18),
     // Another number of cells, and a cell in no piece that isn't 0.
-    (24, 3, 21),
-    (40, 1, 33),
+    (24, 4, 21),
+    (48, 1, 41),
     // A marked line that there isn't.
-    (48, 1, 45),
+    (56, 2, 53),
     // Another number of locks, and a hold that is no mode.
-    (52, 2, 49),
-    (57, 3, 57),
-    // A grant of lock 1, and one with a line that isn't the lock's.
-    (80, 1, 79),
-    (93, 1, 90),
+    (60, 3, 57),
+    (65, 3, 65),
+    // A grant of lock 2, and one with a line that isn't the lock's.
+    (94, 2, 93),
+    (107, 1, 104),
     // A turn that was seen of itself.
-    (114, 1, 111),
-    // A record of lock 1, and a printed line with a newline.
-    (128, 1, 127),
-    (144, 10, 143),
-    // One arrival, which isn't there.
-    (175, 1, 176),
+    (128, 1, 125),
+    // A body that is a grant, a release of a lock whose home is another, a line that isn't the lock's,
+    // and a shared release with a line.
+    (137, 2, 137),
+    (139, 1, 138),
+    (152, 1, 149),
+    (140, 0, 145),
+    // A turn that isn't over the one before, and an arrival at barrier 1.
+    (165, 5, 162),
+    (167, 1, 167),
+    // A record of lock 2, and a printed line with a newline.
+    (201, 2, 200),
+    (217, 10, 216),
+    // A logged grant before the one that stands before it, and one of lock 2.
+    (283, 2, 280),
+    (285, 2, 284),
+    // A record more than there is, and one less.
+    (298, 2, 309),
+    (298, 0, 299),
 ];
 
 #[test]
 fn an_image_is_read_and_written_again(rt: HostRuntime) -> Result<(), Fail> {
     let setup = setup(rt.alloc())?;
-    let bytes = with_digest(rt.alloc(), FRONT.as_slice(), DIGEST.as_slice(), 304)?;
+    let bytes = with_digest(rt.alloc(), FRONT.as_slice(), DIGEST.as_slice(), 171)?;
     let image = read_image(rt.alloc(), bytes.as_slice(), &setup)?;
     assert_eq!(rt; image.turn, 7);
     let mut out = Vec::new(rt.alloc());
@@ -140,8 +163,8 @@ fn a_length_that_does_not_fit_is_told_at_4(rt: HostRuntime) -> Result<(), Fail> 
 fn a_changed_byte_is_damage(rt: HostRuntime) -> Result<(), Fail> {
     let setup = setup(rt.alloc())?;
     let mut front = FRONT;
-    front[175] = 1;
-    let bytes = with_digest(rt.alloc(), front.as_slice(), DIGEST.as_slice(), 304)?;
+    front[308] = 0;
+    let bytes = with_digest(rt.alloc(), front.as_slice(), DIGEST.as_slice(), 171)?;
     let answer = read_image(rt.alloc(), bytes.as_slice(), &setup).err();
     let kept = Digest(DIGEST);
     let found = Digest(OTHER_DIGEST);
@@ -150,7 +173,7 @@ fn a_changed_byte_is_damage(rt: HostRuntime) -> Result<(), Fail> {
 }
 
 /// How many zeros stand behind the digest, and the place that is told.
-const ZEROS: &[(u32, u32)] = &[(303, 511), (305, 512), (0, 208)];
+const ZEROS: &[(u32, u32)] = &[(170, 511), (172, 512), (0, 341)];
 
 #[test]
 fn other_zeros_are_told_at_the_first_place(rt: HostRuntime) -> Result<(), Fail> {
@@ -160,7 +183,7 @@ fn other_zeros_are_told_at_the_first_place(rt: HostRuntime) -> Result<(), Fail> 
         let answer = read_image(rt.alloc(), bytes.as_slice(), &setup).err();
         assert_eq!(rt; answer, Some(LoadErr::BadImage { place: *told }));
     }
-    let mut bytes = with_digest(rt.alloc(), FRONT.as_slice(), DIGEST.as_slice(), 303)?;
+    let mut bytes = with_digest(rt.alloc(), FRONT.as_slice(), DIGEST.as_slice(), 170)?;
     bytes.push(1)?;
     let answer = read_image(rt.alloc(), bytes.as_slice(), &setup).err();
     assert_eq!(rt; answer, Some(LoadErr::BadImage { place: 511 }));

@@ -11,12 +11,11 @@ use Rattle.dsm_top.specs.declared.prepare.SmallRun.{SmallRun}
 use Rattle.dsm_top.specs.declared.prepare.PickRun.{PickRun}
 use Rattle.dsm_check.specs.CheckedViews.{program_of}
 use Rattle.dsm_sched.specs.PickTexts.{picked}
-use Rattle.dsm_sched.specs.Schedules.{units_by}
 use Rattle.dsm_sched.specs.ScheduleTexts.{units_of}
 use Rattle.dsm_check.specs.Programs.{Program}
 use Rattle.dsm_command.specs.Commands.{Command, run, check, plain, load}
 use Rattle.dsm_top.specs.Messages.{message_of, message_line, refusal_text, is_refusal}
-use Rattle.dsm_top.specs.Refusals.{Given, RefusesSmall, RefusesSchedule, RefusesProgram, RefusesPicks, RefusesOwner, RefusesCommand, Refuses, RefusesOrMemory}
+use Rattle.dsm_top.specs.Refusals.{Given, RefusesForm, RefusesSchedule, RefusesProgram, RefusesPicks, RefusesOwner, RefusesCommand, Refuses, RefusesOrMemory}
 use Rattle.dsm_top.specs.Prepared.{IsPrepared}
 use Rattle.dsm_top.specs.PlainRuns.{IsPicked}
 use Rattle.dsm_top.specs.Statuses.{status_of_write}
@@ -35,11 +34,6 @@ refuses given Status.WriteFault not_memory is = is
 refuses given Status.Memory not_memory is = absurd (not_memory refl)
 
 -- What refuses is a refusal.
-
-only_small : (given : Given) (name : List ℕ) (status : Status) → RefusesSmall given name status → is_refusal status ≡ true
-only_small given name (Status.ProgramRefused error) is = refl
-only_small given name (Status.ReadFault file) is = refl
-only_small given name _ is = absurd is
 
 only_schedule : (given : Given) (name : List ℕ) (status : Status) → RefusesSchedule given name status → is_refusal status ≡ true
 only_schedule given name (Status.ScheduleRefused error) is = refl
@@ -60,10 +54,16 @@ only_owner : (program : Program) (procs : ℕ) (status : Status) → RefusesOwne
 only_owner program procs (Status.ProgramRefused error) is = refl
 only_owner program procs _ is = absurd is
 
+only_form : (text : List ℕ) (status : Status) → RefusesForm text status → is_refusal status ≡ true
+only_form text (Status.ProgramRefused error) is = refl
+only_form text _ is = absurd is
+
 only_command : (given : Given) (status : Status) (command : Option Command) → RefusesCommand given status command → is_refusal status ≡ true
 only_command given status None is = ap is_refusal is
-only_command given status (Some (run program schedule false false)) (inl is) = only_small given program status is
-only_command given status (Some (run program schedule false false)) (inr is) = only_schedule given schedule status is.refused
+only_command given status (Some (run program schedule false false)) (inl is) = only_program given program status is
+only_command given status (Some (run program schedule false false)) (inr (inl is)) = only_schedule given schedule status is.refused
+only_command given status (Some (run program schedule false false)) (inr (inr (inl is))) = only_owner is.refused.found is.procs status is.refused.refused
+only_command given status (Some (run program schedule false false)) (inr (inr (inr is))) = only_form is.has_fitting.has_program.text status is.refused
 only_command given status (Some (run program schedule true state)) is = ap is_refusal is
 only_command given status (Some (run program schedule false true)) is = ap is_refusal is
 only_command given status (Some (load seed)) is = ap is_refusal is
@@ -128,14 +128,14 @@ module _ (given : Given) (before after : Option (List ℕ)) (faults_before fault
 
 -- What a command that was prepared leaves.
 
-command_run : (given : Given) (prepared : SmallRun) (left : Left) (status : Status) (command : Option Command) → prepared.schedule.procs ≡ 2 → IsPrepared given.files command (Prepared.Run prepared) → Ran prepared.program (units_of prepared.schedule) left status
+command_run : (given : Given) (prepared : SmallRun) (left : Left) (status : Status) (command : Option Command) → IsPrepared given.files command (Prepared.Run prepared) → Ran prepared.program prepared.schedule.procs (units_of prepared.schedule) left status
     → EndedCommand given left status command
-command_run given prepared left status (Some (run program schedule false false)) two is ran =
-    record { small = prepared.program; entries = prepared.schedule.entries; accepted = is; ran = subst (λ procs. Ran prepared.program (units_by procs prepared.schedule.entries) left status) two ran }
-command_run given prepared left status _ two is ran = absurd is
+command_run given prepared left status (Some (run program schedule false false)) is ran =
+    record { small = prepared.program; procs = prepared.schedule.procs; entries = prepared.schedule.entries; accepted = is; ran = ran }
+command_run given prepared left status _ is ran = absurd is
 
-pub ended_run : (given : Given) (prepared : SmallRun) (left : Left) (status : Status) → prepared.schedule.procs ≡ 2 → IsPrepared given.files given.command (Prepared.Run prepared) → Ran prepared.program (units_of prepared.schedule) left status → Ended given left status
-ended_run given prepared left status two is ran = inr (command_run given prepared left status given.command two is ran)
+pub ended_run : (given : Given) (prepared : SmallRun) (left : Left) (status : Status) → IsPrepared given.files given.command (Prepared.Run prepared) → Ran prepared.program prepared.schedule.procs (units_of prepared.schedule) left status → Ended given left status
+ended_run given prepared left status is ran = inr (command_run given prepared left status given.command is ran)
 
 command_check : (given : Given) (left : Left) (status : Status) (command : Option Command) → IsPrepared given.files command Prepared.Check → left.trace ≡ [] → left.units ≡ 0 → Tells ok_line Status.Done left status → EndedCommand given left status command
 command_check given left status (Some (check program procs)) is no_trace no_units checked =

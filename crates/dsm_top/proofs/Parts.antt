@@ -4,11 +4,11 @@ use Rattle.std.proofs.Common.{refl, sym, ◌∙◌, subst, arith, inl, inr}
 use Rattle.dsm_base.specs.Causes.{Rose}
 use Rattle.dsm_check.specs.Programs.{Program}
 use Rattle.dsm_sched.specs.declared.picks.PickEntry.{PickEntry}
-use Rattle.dsm_small.specs.declared.tree.SmallProgram.{SmallProgram}
+use Rattle.dsm_sched.specs.declared.schedule.Entry.{Entry}
 use Rattle.dsm_top.specs.declared.status.Status.{Status}
 use Rattle.dsm_command.specs.Commands.{Command, run}
-use Rattle.dsm_top.specs.Accepted.{Contents, IsAccepted, HasProgram, HasChecked, HasPicks}
-use Rattle.dsm_top.specs.Refusals.{Given, FilesRose, RefusesSmall, RefusesSchedule, RefusesRun, RefusesProgram, RefusesPicks, RefusesOwner, RefusesCheck, RefusesPlain, OrMemory, RefusesOrMemory}
+use Rattle.dsm_top.specs.Accepted.{Contents, IsAccepted, HasChecked, HasFitting, HasPicks, HasSchedule}
+use Rattle.dsm_top.specs.Refusals.{Given, FilesRose, RefusesSchedule, RefusesForm, RefusesRun, RefusesProgram, RefusesPicks, RefusesOwner, RefusesCheck, RefusesPlain, OrMemory, RefusesOrMemory}
 use Rattle.dsm_top.specs.declared.prepare.Prepared.{Prepared}
 use Rattle.dsm_top.specs.declared.prepare.SmallRun.{SmallRun}
 use Rattle.dsm_top.specs.Prepared.{Span, IsUnread, IsPart, Keeps, RefusesIn, IsPrepared}
@@ -51,11 +51,6 @@ rose given span part is = rose_within given.faults_before span.before span.after
 
 -- A file couldn't be read.
 
-pub unread_small : (span : Span) (name : List ℕ) (status : Status) → IsUnread 0 span.before span.after status → RefusesIn span (λ given. RefusesSmall given name) status
-unread_small span name Status.Memory is given part = tt
-unread_small span name (Status.ReadFault file) is given part = subst (λ number. RefusesSmall given name (Status.ReadFault number)) (sym is.0) (rose given span part is.1)
-unread_small span name _ is given part = absurd is
-
 pub unread_schedule : (span : Span) (name : List ℕ) (status : Status) → IsUnread 1 span.before span.after status → RefusesIn span (λ given. RefusesSchedule given name) status
 unread_schedule span name Status.Memory is given part = tt
 unread_schedule span name (Status.ReadFault file) is given part = subst (λ number. RefusesSchedule given name (Status.ReadFault number)) (sym is.0) (rose given span part is.1)
@@ -73,12 +68,24 @@ unread_picks span name _ is given part = absurd is
 
 -- The parts of a refusal, in their order.
 
-pub run_program : (given : Given) (program schedule : List ℕ) (status : Status) → OrMemory (RefusesSmall given program) status → OrMemory (RefusesRun given program schedule) status
-run_program given program schedule status is = weaker (RefusesSmall given program) (RefusesRun given program schedule) status inl is
+pub run_program : (given : Given) (program schedule : List ℕ) (status : Status) → OrMemory (RefusesProgram given program) status → OrMemory (RefusesRun given program schedule) status
+run_program given program schedule status is = weaker (RefusesProgram given program) (RefusesRun given program schedule) status inl is
 
-pub run_schedule : (given : Given) (program schedule : List ℕ) (found : SmallProgram) (status : Status) → HasProgram given.files program found → OrMemory (RefusesSchedule given schedule) status → OrMemory (RefusesRun given program schedule) status
+pub run_schedule : (given : Given) (program schedule : List ℕ) (found : Program) (status : Status) → HasChecked given.files program found → OrMemory (RefusesSchedule given schedule) status → OrMemory (RefusesRun given program schedule) status
 run_schedule given program schedule found status has is =
-    weaker (RefusesSchedule given schedule) (RefusesRun given program schedule) status (λ refused. inr record { found = found; has_program = has; refused = refused }) is
+    weaker (RefusesSchedule given schedule) (RefusesRun given program schedule) status (λ refused. inr (inl record { found = found; has_program = has; refused = refused })) is
+
+pub run_owner : (given : Given) (program schedule : List ℕ) (found : Program) (procs : ℕ) (entries : List Entry) (status : Status) → HasChecked given.files program found → HasSchedule given.files schedule procs entries → RefusesOwner found procs status
+    → OrMemory (RefusesRun given program schedule) status
+run_owner given program schedule found procs entries status has has_schedule is =
+    or_memory (RefusesRun given program schedule) status
+    (inr (inr (inl record { procs = procs; entries = entries; has_schedule = has_schedule; refused = record { found = found; has_program = has; refused = is } })))
+
+pub run_form : (given : Given) (program schedule : List ℕ) (found : Program) (procs : ℕ) (entries : List Entry) (status : Status) (has : HasFitting given.files program procs found) → HasSchedule given.files schedule procs entries
+    → OrMemory (RefusesForm has.has_program.text) status → OrMemory (RefusesRun given program schedule) status
+run_form given program schedule found procs entries status has has_schedule is =
+    weaker (RefusesForm has.has_program.text) (RefusesRun given program schedule) status
+    (λ refused. inr (inr (inr record { procs = procs; entries = entries; has_schedule = has_schedule; found = found; has_fitting = has; refused = refused }))) is
 
 pub check_program : (given : Given) (program : List ℕ) (procs : ℕ) (status : Status) → OrMemory (RefusesProgram given program) status → OrMemory (RefusesCheck given program procs) status
 check_program given program procs status is = weaker (RefusesProgram given program) (RefusesCheck given program procs) status inl is
@@ -121,7 +128,7 @@ module _ (files : Contents) (before after : ℕ) (program schedule : List ℕ) w
   refused_run false false status flag is = is (flagged false false) (whole_part (Some (run program schedule false false)) files before after)
 
 -- and it is prepared
-pub prepared_run : (files : Contents) (program schedule : List ℕ) (trace state : Bool) (prepared : SmallRun) → (trace || state) ≡ false → IsAccepted files program schedule prepared.program prepared.schedule.entries →
+pub prepared_run : (files : Contents) (program schedule : List ℕ) (trace state : Bool) (prepared : SmallRun) → (trace || state) ≡ false → IsAccepted files program schedule prepared.program prepared.schedule.procs prepared.schedule.entries →
     IsPrepared files (Some (run program schedule trace state)) (Prepared.Run prepared)
 prepared_run files program schedule true state prepared flag is = absurd (cc)
 prepared_run files program schedule false true prepared flag is = absurd (cc)

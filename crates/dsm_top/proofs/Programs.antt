@@ -23,7 +23,7 @@ use Rattle.dsm_sched.specs.PickTexts.{picks_said}
 use Rattle.dsm_sched.specs.Built.{built_said}
 use Rattle.dsm_top.specs.Accepted.{IsProgramText, IsScheduleText}
 use Rattle.dsm_top.specs.Statuses.{status_of_program, status_of_schedule}
-use Rattle.dsm_top.specs.Refusals.{RefusesSmall, RefusesSchedule, RefusesProgram, RefusesPicks, IsNoProgram, IsReadProgram, IsUnchecked, by_tokens, by_tree, by_rules}
+use Rattle.dsm_top.specs.Refusals.{RefusesSchedule, RefusesProgram, RefusesPicks, RefusesForm, OrMemory, IsNoProgram, IsReadProgram, IsUnchecked, by_tokens, by_tree, by_rules}
 use Rattle.dsm_top.specs.Prepared.{Span, GivesProgram, RefusesIn}
 
 same_tokens : (result : Result (List Token) ProgErr) (tokens other : List Token) → result ≡ Ok tokens → IsAnswer result (Ok other) → tokens ≡ other
@@ -79,6 +79,12 @@ pub schedule_status : (error : SchedErr) → (error ≡ SchedErr.Memory → ⊥)
 schedule_status SchedErr.Memory other = absurd (other refl)
 schedule_status error other = refl
 
+-- a text that isn't of the small form
+pub refuses_form : (slice text : List ℕ) → slice ≡ text → (error : ProgErr) → IsReadProgram slice (Err error) → OrMemory (RefusesForm text) (status_of_program error)
+refuses_form slice text same ProgErr.Memory gives = tt
+refuses_form slice text same (ProgErr.NotBuilt line) gives = (ap ProgErr.NotBuilt gives.0, subst IsNoProgram same gives.1)
+refuses_form slice text same _ gives = absurd gives
+
 -- a text that was read in a part of a call, and for which its reader answers an error
 module _ (span : Span) (name slice text : List ℕ) (same : slice ≡ text) where
   pub refuses_program : (error : ProgErr) → IsProgramText span.files name text → GivesProgram slice (Err error) → RefusesIn span (λ given. RefusesProgram given name) (status_of_program error)
@@ -88,18 +94,6 @@ module _ (span : Span) (name slice text : List ℕ) (same : slice ≡ text) wher
     is_read = subst (λ held. IsProgramText held name text) (sym part.same) is_read;
     is_unchecked = subst (λ bytes. IsUnchecked bytes error) same gives;
   }
-
-  pub refuses_small : (error : ProgErr) → IsProgramText span.files name text → IsReadProgram slice (Err error) → RefusesIn span (λ given. RefusesSmall given name) (status_of_program error)
-  refuses_small ProgErr.Memory is_read gives given part = tt
-  refuses_small (ProgErr.NotBuilt line) is_read gives given part = (
-    ap ProgErr.NotBuilt gives.0,
-    record {
-      text = text;
-      is_read = subst (λ held. IsProgramText held name text) (sym part.same) is_read;
-      is_none = subst IsNoProgram same gives.1;
-    },
-  )
-  refuses_small _ is_read gives given part = absurd gives
 
   pub refuses_schedule : {X : Type 0} (view : X → ℕ × List Entry) (error : SchedErr) → IsScheduleText span.files name text → Gives view (Err error) (built_said slice) → RefusesIn span (λ given. RefusesSchedule given name) (status_of_schedule error)
   refuses_schedule view SchedErr.Memory is_read gives given part = tt

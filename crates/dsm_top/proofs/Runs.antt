@@ -1,6 +1,5 @@
 -- What a run leaves.
-use Rattle.std.specs.Prelude.{◌≡◌, ◌≤◌, ℕ, Bool, true, false, if◌then◌else◌, List, [], ◌∷◌, length, take, reverse, Option, Result, IfOk, IsTrue}
-use Rattle.std.specs.List.{AllByRecursion}
+use Rattle.std.specs.Prelude.{◌≡◌, ◌≤◌, ℕ, Bool, true, false, if◌then◌else◌, List, [], ◌∷◌, length, take, reverse, Option, Result, Ok, Err, IfOk, IsTrue}
 use Rattle.std.proofs.Common.{refl, sym, ap, ◌∙◌, arith, subst}
 use Rattle.dsm_base.specs.Causes.{Rose, IfFailed}
 use Rattle.dsm_base.specs.declared.errors.ReadErr.{ReadErr}
@@ -10,90 +9,124 @@ use Rattle.dsm_base.specs.declared.errors.MemFault.{MemFault}
 use Rattle.dsm_base.specs.declared.setup.Setup.{Setup}
 use Rattle.dsm_base.specs.Setups.{is_proc_count}
 use Rattle.dsm_base.specs.Threads.{StaysWithin}
-use Rattle.dsm_trace.specs.declared.trace.Group.{Group}
-use Rattle.dsm_trace.specs.Fits.{IsWithin, FitsUnits}
-use Rattle.dsm_trace.specs.OneMemory.{is_any_lock, BindsLocksOnly, IsOneMemory}
-use Rattle.dsm_small.specs.declared.thread.SmallMaker.{SmallMaker}
 use Rattle.dsm_small.specs.declared.tree.SmallProgram.{SmallProgram}
 use Rattle.dsm_small.specs.Meaning.{small_first, small_semantics}
-use Rattle.dsm_small.specs.Setups.{the_piece, small_setup}
 use Rattle.dsm_base.specs.declared.finished.Finished.{Finished}
-use Rattle.dsm_base.specs.Endings.{finished_by}
-use Rattle.dsm_world.specs.World.{setup_of, groups_of, units_of}
+use Rattle.dsm_small.specs.declared.state.SmallState.{SmallState}
+use Rattle.dsm_small.specs.Setups.{small_setup}
+use Rattle.dsm_base.specs.Endings.{endings_of, finished_by}
+use Rattle.dsm_base.specs.Output.{printed_lines}
+use Rattle.dsm_base.specs.Plain.{labels_of}
+use Rattle.dsm_net.specs.declared.trace.Group.{Group}
+use Rattle.dsm_net.specs.Fits.{IsWithin, FitsUnits, run_of}
+use Rattle.dsm_net.specs.Story.{history, own_turns_of, labels_of_turns}
+use Rattle.dsm_laws_protocol.specs.Holding.{AreWithin}
+use Rattle.dsm_laws_protocol.specs.OwnParts.{HasOwnParts}
+use Rattle.dsm_laws_history.specs.Output.{output_of}
+use Rattle.dsm_network.specs.World.{setup_of, groups_of, units_of, net_of, ending_at}
 use Rattle.dsm_top.specs.declared.status.Status.{Status}
+use Rattle.dsm_top.specs.Lawful.{IsLawful}
+use Rattle.dsm_top.specs.Ended.{Left, TakesFront, IsRun, Ran}
+use Rattle.dsm_top.specs.Runs.{SmallWorld, first_by, small_kind, first_in, IsMadeBy, FitsFirst, WroteCut}
 use Rattle.dsm_top.specs.Statuses.{status_of_finished, status_of_write}
-use Rattle.dsm_top.specs.Ended.{Left, TakesFront, IsRun, endings_in, lines_of_trace, Ran}
-use Rattle.dsm_top.specs.Runs.{SmallWorld, first_by, first_in, FitsFirst, WroteCut}
 use Rattle.dsm_top.proofs.Pieces.{appended-nil}
-use Rattle.dsm_top.proofs.Went.{went_through}
+use Rattle.dsm_top.proofs.Applied.{made_fits}
+use Rattle.dsm_top.proofs.Endings.{endings_are}
 use Rattle.dsm_top.proofs.Units.{all_front}
+use Rattle.dsm_top.proofs.Went.{went_through}
 
--- the law of locks, for threads of small programs
+-- the laws of traces, for threads of small programs
+
 abbrev pub Law : Type 0
-Law = (maker : SmallMaker) (setup : Setup) (units : List Act) (trace : List Group) → BindsLocksOnly setup → AllByRecursion (IsWithin setup) units →
-    FitsUnits setup (first_by maker setup.procs) small_semantics units trace → IsOneMemory setup (first_by maker setup.procs) small_semantics trace
+Law = (program : SmallProgram) (setup : Setup) (acts : List Act) (trace : List Group) (fits : FitsUnits setup (small_first program setup.procs) small_semantics acts trace) → AreWithin setup acts →
+    IsLawful setup (small_first program setup.procs) small_semantics (run_of setup (small_first program setup.procs) small_semantics fits.done).net trace
 
-locks_only : (has_items : Bool) → AllByRecursion (λ piece. is_any_lock piece.object ≡ true) (if has_items then the_piece ∷ [] else [])
-locks_only true = (refl, tt)
-locks_only false = tt
+abbrev pub Output : Type 0
+Output = (setup : Setup) (first : ℕ → SmallState) (acts : List Act) (trace : List Group) → FitsUnits setup first small_semantics acts trace → output_of trace ≡ printed_lines (history trace)
 
-module _ (program : SmallProgram) (schedule : List Act) (law : Law) (all_within : AllByRecursion (IsWithin (small_setup program 2 refl)) schedule) where
-  -- a front of the schedule, as the law has it
-  pub is_run : (units : ℕ) (trace : List Group) → units ≤ length schedule → FitsUnits (small_setup program 2 refl) (small_first program 2) small_semantics (reverse (take units schedule)) trace → IsRun program schedule units trace
+abbrev pub OwnParts : Type 0
+OwnParts = (setup : Setup) (first : ℕ → SmallState) (acts : List Act) (trace : List Group) (fits : FitsUnits setup first small_semantics acts trace) →
+    HasOwnParts setup first small_semantics (run_of setup first small_semantics fits.done).net trace
+
+abbrev pub OwnLabels : Type 0
+OwnLabels = (trace : List Group) (p : ℕ) → labels_of_turns (own_turns_of p trace) ≡ labels_of p (history trace)
+
+-- how each thread of a world came to be over
+world_endings : (own : OwnParts) (labels : OwnLabels) (schedule : List Act) (world : SmallWorld) → IsMadeBy schedule world → (p : ℕ) →
+    ending_at ((net_of small_kind first_by world).processors p) ≡ endings_of (history (groups_of world)) p
+world_endings own labels schedule world made p =
+    let fits = made_fits world schedule made in
+    ap (λ ran. ending_at (ran.net.processors p)) (sym made.run.ran)
+    ∙ endings_are (setup_of world) (first_in world) small_semantics (reverse (take (units_of world) schedule)) (groups_of world) fits
+    (own (setup_of world) (first_in world) (reverse (take (units_of world) schedule)) (groups_of world) fits) (labels (groups_of world)) p
+
+module _ (program : SmallProgram) (procs : ℕ) (count : IsTrue (is_proc_count procs)) (schedule : List Act) (law : Law) (all_within : AreWithin (small_setup program procs count) schedule) where
+  -- a front of the schedule, as the laws have it
+  pub is_run : (units : ℕ) (trace : List Group) → units ≤ length schedule → FitsUnits (small_setup program procs count) (small_first program procs) small_semantics (reverse (take units schedule)) trace → IsRun program procs count schedule units trace
   is_run units trace within fits = record {
     within = within;
     fits = fits;
-    one_memory = law record { program = program } (small_setup program 2 refl) (reverse (take units schedule)) trace (locks_only program.has_items) (all_front (IsWithin (small_setup program 2 refl)) schedule units all_within) fits;
+    lawful = law program (small_setup program procs count) (reverse (take units schedule)) trace fits (all_front (IsWithin (small_setup program procs count)) schedule units all_within);
   }
 
-  module _ (world : SmallWorld) (left : Left) (setup : setup_of world ≡ small_setup program 2 refl) (first : first_in world ≡ small_first program 2)
+  module _ (output : Output) (world : SmallWorld) (left : Left) (setup : setup_of world ≡ small_setup program procs count) (first : first_in world ≡ small_first program procs)
       (within : units_of world ≤ length schedule) (fits : FitsFirst world schedule) (trace : left.trace ≡ groups_of world) (units : left.units ≡ units_of world) where
-    run : IsRun program schedule left.units left.trace
+    run : IsRun program procs count schedule left.units left.trace
     run =
         let at_setup = subst (λ s. FitsUnits s (first_in world) small_semantics (reverse (take (units_of world) schedule)) (groups_of world)) setup fits in
-        let at_first = subst (λ f. FitsUnits (small_setup program 2 refl) f small_semantics (reverse (take (units_of world) schedule)) (groups_of world)) first at_setup in
-        let at_units = subst (λ n. FitsUnits (small_setup program 2 refl) (small_first program 2) small_semantics (reverse (take n schedule)) (groups_of world)) (sym units) at_first in
-        let at_trace = subst (λ t. FitsUnits (small_setup program 2 refl) (small_first program 2) small_semantics (reverse (take left.units schedule)) t) (sym trace) at_units in
+        let at_first = subst (λ f. FitsUnits (small_setup program procs count) f small_semantics (reverse (take (units_of world) schedule)) (groups_of world)) first at_setup in
+        let at_units = subst (λ n. FitsUnits (small_setup program procs count) (small_first program procs) small_semantics (reverse (take n schedule)) (groups_of world)) (sym units) at_first in
+        let at_trace = subst (λ t. FitsUnits (small_setup program procs count) (small_first program procs) small_semantics (reverse (take left.units schedule)) t) (sym trace) at_units in
         is_run left.units left.trace (omega (arith, within, units)) at_trace
 
-    pub ran_whole : (finished : Finished) (status : Status) → finished ≡ finished_by (setup_of world).procs (endings_in (groups_of world)) → status ≡ status_of_finished finished →
-        units_of world ≡ length schedule → left.after ≡ appended left.before (lines_of_trace (groups_of world)) → Ran program schedule left status
-    ran_whole finished status is named all wrote =
-        let stands = ap (λ t. finished_by 2 (endings_in t)) trace ∙ (ap (λ s. finished_by s.procs (endings_in (groups_of world))) (sym setup) ∙ sym is) in
+    -- what went out is what the history prints
+    out : output_of (groups_of world) ≡ printed_lines (history left.trace)
+    out =
+        output (setup_of world) (first_in world) (reverse (take (units_of world) schedule)) (groups_of world) fits
+        ∙ ap (λ t. printed_lines (history t)) (sym trace)
+
+    pub ran_whole : (own : OwnParts) (labels : OwnLabels) (made : IsMadeBy schedule world) (finished : Finished) (status : Status) →
+        finished ≡ finished_by (setup_of world).procs (λ p. ending_at ((net_of small_kind first_by world).processors p)) → status ≡ status_of_finished finished →
+        units_of world ≡ length schedule → left.after ≡ appended left.before (output_of (groups_of world)) → Ran program procs schedule left status
+    ran_whole own labels made finished status is named all wrote =
+        let same : finished_by (setup_of world).procs (λ p. ending_at ((net_of small_kind first_by world).processors p)) ≡ finished_by (setup_of world).procs (endings_of (history (groups_of world))) =
+        (λ i. finished_by (setup_of world).procs (λ p. world_endings own labels schedule world made p i)) in
+        let stands : finished_by procs (endings_of (history left.trace)) ≡ finished =
+        ap (λ t. finished_by procs (endings_of (history t))) trace ∙ (ap (λ (s : Setup). finished_by s.procs (endings_of (history (groups_of world)))) (sym setup) ∙ (sym same ∙ sym is)) in
         record {
+          count = count;
           is_run = run;
-          went = went_through (length schedule) (finished_by 2 (endings_in left.trace)) finished (lines_of_trace left.trace) left status stands named (units ∙ all)
-              (wrote ∙ ap (λ t. appended left.before (lines_of_trace t)) (sym trace));
+          went = went_through (length schedule) (finished_by procs (endings_of (history left.trace))) finished (printed_lines (history left.trace)) left status stands named (units ∙ all)
+              (wrote ∙ ap (appended left.before) out);
         }
 
-    ran_cut : TakesPart left.before left.after (lines_of_trace (groups_of world)) → Rose left.faults_before left.faults_after → Ran program schedule left Status.WriteFault
+    ran_cut : TakesPart left.before left.after (output_of (groups_of world)) → Rose left.faults_before left.faults_after → Ran program procs schedule left Status.WriteFault
     ran_cut part rose = record {
+      count = count;
       is_run = run;
-      went = record { part = subst (λ t. TakesPart left.before left.after (lines_of_trace t)) (sym trace) part; rose = rose };
+      went = record { part = subst (TakesPart left.before left.after) out part; rose = rose };
     }
 
-    ran_short : TakesFront left.before left.after (lines_of_trace (groups_of world)) → Ran program schedule left Status.Memory
+    ran_short : TakesFront left.before left.after (output_of (groups_of world)) → Ran program procs schedule left Status.Memory
     ran_short front = record {
+      count = count;
       is_run = run;
-      went = subst (λ t. TakesFront left.before left.after (lines_of_trace t)) (sym trace) front;
+      went = subst (TakesFront left.before left.after) out front;
     }
 
     -- what the sink has where the run was cut short
-    pub cut_by : (error : ReadErr) → WroteCut left.before left.after (lines_of_trace (groups_of world)) error → IfFailed error (Rose left.faults_before left.faults_after) → Ran program schedule left (status_of_write error)
+    pub cut_by : (error : ReadErr) → WroteCut left.before left.after (output_of (groups_of world)) error → IfFailed error (Rose left.faults_before left.faults_after) → Ran program procs schedule left (status_of_write error)
     cut_by ReadErr.Failed cut rose = ran_cut cut rose
     cut_by ReadErr.Memory cut rose = ran_short cut
 
   -- nothing was applied
   pub ran_none : (before : Option (List ℕ)) (faults_before faults_after : ℕ) →
-      Ran program schedule record { before = before; after = before; faults_before = faults_before; faults_after = faults_after; trace = []; units = 0 } Status.Memory
+      Ran program procs schedule record { before = before; after = before; faults_before = faults_before; faults_after = faults_after; trace = []; units = 0 } Status.Memory
   ran_none before faults_before faults_after = record {
-    is_run = is_run 0 [] (omega (arith)) refl;
+    count = count;
+    is_run = is_run 0 [] (omega (arith)) record { done = []; same_acts = refl; is_trace = refl };
     went = record { count = 0; taken = sym (appended-nil before) };
   }
-
--- a setup for two processors
-pub at_two : (setup : Setup) (program : SmallProgram) (procs : ℕ) → procs ≡ 2 → ((fits : IsTrue (is_proc_count procs)) → setup ≡ small_setup program procs fits) → setup ≡ small_setup program 2 refl
-at_two setup program procs two value = subst (λ n. (fits : IsTrue (is_proc_count n)) → setup ≡ small_setup program n fits) two value refl
 
 -- what threads want is of the setup, whatever names it, the program and the number of processors have
 pub stays : (setup given : Setup) (own program : SmallProgram) (procs : ℕ) → setup ≡ given → own ≡ program → given.procs ≡ procs →
@@ -104,7 +137,13 @@ stays setup given own program procs same_setup same_program count all me =
     subst (λ s. StaysWithin s small_semantics (small_first own s.procs me)) (sym same_setup) named
 
 -- the first states of a program's threads
-pub first_states : (result : Result SmallWorld MemFault) (given program : SmallProgram) (procs : ℕ) → given ≡ program → procs ≡ 2 →
-    IfOk result (λ world. first_in world ≡ small_first given procs) → IfOk result (λ world. first_in world ≡ small_first program 2)
-first_states result given program procs same two first =
-    subst (λ n. IfOk result (λ world. first_in world ≡ small_first program n)) two (subst (λ one. IfOk result (λ world. first_in world ≡ small_first one procs)) same first)
+pub first_states : (result : Result SmallWorld MemFault) (given program : SmallProgram) (own procs : ℕ) → given ≡ program → own ≡ procs →
+    IfOk result (λ world. first_in world ≡ small_first given own) → IfOk result (λ world. first_in world ≡ small_first program procs)
+first_states result given program own procs same count first =
+    subst (λ n. IfOk result (λ world. first_in world ≡ small_first program n)) count (subst (λ one. IfOk result (λ world. first_in world ≡ small_first one own)) same first)
+
+-- the setup of a world, whatever names it
+pub same_setup : (result : Result SmallWorld MemFault) (given : Setup) (program : SmallProgram) (procs : ℕ) → ((count : IsTrue (is_proc_count procs)) → given ≡ small_setup program procs count) →
+    IfOk result (λ world. setup_of world ≡ given) → IfOk result (λ world. (count : IsTrue (is_proc_count procs)) → setup_of world ≡ small_setup program procs count)
+same_setup (Ok world) given program procs value is = λ count. is ∙ value count
+same_setup (Err error) given program procs value is = tt

@@ -1,5 +1,5 @@
 -- The units of a schedule name its processors.
-use Rattle.std.specs.Prelude.{◌≡◌, ◌≢◌, ℕ, zero, suc, ◌<◌, ◌&&◌, ◌==◌, not, nat_lt, nat_le, true, List, [], ◌∷◌, slice_get, Option, Some, None, IfSome}
+use Rattle.std.specs.Prelude.{◌≡◌, ◌≢◌, ℕ, zero, suc, ◌<◌, ◌&&◌, ◌==◌, not, nat_lt, nat_le, true, List, [], ◌∷◌, slice_get, Option, Some, None, IfSome, IsTrue}
 use Rattle.std.specs.List.{AllByRecursion, list_all}
 use Rattle.std.specs.Cmp.{first_so, second_so}
 use Rattle.std.proofs.Common.{arith}
@@ -7,7 +7,7 @@ use Rattle.std.proofs.lemmas.Grind.{common_steps}
 use Rattle.dsm_base.specs.declared.act.Act.{Act}
 use Rattle.dsm_base.specs.declared.setup.Setup.{Setup}
 use Rattle.dsm_base.specs.Setups.{is_proc_count}
-use Rattle.dsm_trace.specs.Fits.{IsWithin}
+use Rattle.dsm_net.specs.Fits.{IsWithin}
 use Rattle.dsm_sched.specs.declared.schedule.Schedule.{Schedule}
 use Rattle.dsm_sched.specs.Schedules.{is_act, is_entry}
 use Rattle.dsm_sched.specs.ScheduleTexts.{units_of}
@@ -42,6 +42,12 @@ each_place P (item ∷ items) here = (here zero, each_place P items (λ index. h
 here_within : (setup : Setup) (procs : ℕ) (act : Option Act) → setup.procs ≡ procs → IfSome act (λ one. is_act procs one ≡ true) → IfSome act (IsWithin setup)
 here_within setup procs None same is = tt
 here_within setup procs (Some act) same is = act_within setup procs act same is
+
+-- a schedule is for 2 to 16 processors
+pub some_procs : (schedule : Schedule) → IsTrue (is_proc_count schedule.procs)
+some_procs schedule =
+    let entries = list_all (is_entry schedule.procs) schedule.entries in
+    first_so (is_proc_count schedule.procs) entries (first_so (is_proc_count schedule.procs && entries) _ schedule.kept)
 
 -- and so do all units of a schedule for as many processors
 pub all_within : (setup : Setup) (schedule : Schedule) → setup.procs ≡ schedule.procs → AllByRecursion (IsWithin setup) (units_of schedule)

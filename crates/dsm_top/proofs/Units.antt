@@ -1,28 +1,16 @@
--- Units of a schedule from its front, and what their traces print.
-use Rattle.std.specs.Prelude.{◌≡◌, ◌≤◌, ◌<◌, ℕ, zero, suc, ◌+◌, List, [], ◌∷◌, ◌++◌, length, take, reverse, Option, Some, None}
+-- Units of a schedule from its front, and what their traces put out.
+use Rattle.std.specs.Prelude.{◌≡◌, ◌≤◌, ◌<◌, ℕ, zero, suc, ◌+◌, List, [], ◌∷◌, ◌++◌, length, take, reverse}
 use Rattle.std.specs.List.{AllByRecursion}
-use Rattle.std.proofs.Common.{refl, sym, ap, ◌∙◌, arith, subst, append-nil}
+use Rattle.std.proofs.Common.{refl, sym, ap, ◌∙◌, arith, subst, append-nil, append_assoc}
 use Rattle.std.proofs.Math.ListN.{get_or}
 use Rattle.std.proofs.lemmas.List.{take_more, reverse-append, length-reverse}
 use Rattle.std.proofs.lemmas.Grind.{common_steps}
-use Rattle.dsm_base.specs.declared.act.Act.{Act}
-use Rattle.dsm_base.specs.declared.setup.Setup.{Setup}
-use Rattle.dsm_base.specs.Plain.{Turn}
-use Rattle.dsm_base.specs.Output.{line_text, printed_of, printed_lines}
-use Rattle.dsm_base.specs.Threads.{Semantics}
-use Rattle.dsm_trace.specs.declared.message.Msg.{Msg}
-use Rattle.dsm_trace.specs.declared.message.Letter.{Letter}
-use Rattle.dsm_trace.specs.declared.trace.Rec.{Rec}
-use Rattle.dsm_trace.specs.declared.trace.Group.{Group}
-use Rattle.dsm_trace.specs.Processor.{Deed, own_turn}
-use Rattle.dsm_trace.specs.Effects.{turned, handled}
-use Rattle.dsm_trace.specs.Told.{Told}
-use Rattle.dsm_trace.specs.Rows.{sent_records, out_records, step_records, delivery_records, unit_records}
-use Rattle.dsm_trace.specs.Fits.{with_unit}
-use Rattle.dsm_trace.specs.History.{turns_onto, history}
-use Rattle.dsm_trace.proofs.Numbered.{all_push}
-use Rattle.dsm_world.specs.Lines.{lines_of}
-use Rattle.dsm_top.specs.Ended.{lines_of_trace}
+use Rattle.dsm_base.specs.Output.{printed_line}
+use Rattle.dsm_net.specs.declared.trace.Rec.{Rec}
+use Rattle.dsm_net.specs.declared.trace.Group.{Group}
+use Rattle.dsm_net.specs.Fits.{with_unit}
+use Rattle.dsm_records.specs.Outputs.{lines_of}
+use Rattle.dsm_laws_history.specs.Output.{output_onto, output_of}
 use Rattle.dsm_top.specs.Runs.{joined}
 
 -- Fronts.
@@ -48,6 +36,10 @@ all_take P [] (suc count) all = tt
 all_take P (first ∷ items) zero all = tt
 all_take P (first ∷ items) (suc count) all = (all.0, all_take P items count all.1)
 
+all_push : {A : Type 0} (P : A → Type 0) (items : List A) (item : A) → AllByRecursion P items → P item → AllByRecursion P (items ++ item ∷ [])
+all_push P [] item all one = (one, tt)
+all_push P (first ∷ items) item all one = (all.0, all_push P items item all.1 one)
+
 all_reverse : {A : Type 0} → (P : A → Type 0) (items : List A) → AllByRecursion P items → AllByRecursion P (reverse items)
 all_reverse P [] all = tt
 all_reverse P (first ∷ items) all =
@@ -56,50 +48,17 @@ all_reverse P (first ∷ items) all =
 pub all_front : {A : Type 0} → (P : A → Type 0) (items : List A) (count : ℕ) → AllByRecursion P items → AllByRecursion P (reverse (take count items))
 all_front P items count all = all_reverse P (take count items) (all_take P items count all)
 
--- What is printed.
+-- What goes out.
 
-no_turns : (before : List Turn) (sent : ℕ) (sends : List Msg) (p turn : ℕ) (text : Option (List ℕ)) → turns_onto before (sent_records sent sends ++ out_records p turn text) ≡ before
-no_turns before sent [] p turn None = refl
-no_turns before sent [] p turn (Some text) = refl
-no_turns before sent (msg ∷ sends) p turn text = no_turns before (sent + 1) sends p turn text
-
-line_out : (sent : ℕ) (sends : List Msg) (p turn : ℕ) (text : Option (List ℕ)) → joined (lines_of (sent_records sent sends ++ out_records p turn text)) ≡ printed_of p text
-line_out sent [] p turn None = refl
-line_out sent [] p turn (Some text) = append-nil _
-line_out sent (msg ∷ sends) p turn text = line_out (sent + 1) sends p turn text
-
--- messages print nothing
-no_lines : (before : List Turn) (sent : ℕ) (sends : List Msg) → printed_lines (turns_onto before (sent_records sent sends)) ≡ printed_lines before ++ joined (lines_of (sent_records sent sends))
-no_lines before sent [] = sym (append-nil (printed_lines before))
-no_lines before sent (msg ∷ sends) = no_lines before (sent + 1) sends
-
-step_prints : {S : Type 0} → (setup : Setup) (threads : Semantics S) (t : Told S) (p : ℕ) (deed : Option Deed) (before : List Turn) →
-    printed_lines (turns_onto before (step_records setup threads t p deed)) ≡ printed_lines before ++ joined (lines_of (step_records setup threads t p deed))
-step_prints setup threads t p None before = sym (append-nil (printed_lines before))
-step_prints setup threads t p (Some deed) before =
-    let sends = (turned setup threads p (t.processors p) deed).sends in
-    let turn = (t.processors p).turns + 1 in
-    ap printed_lines (no_turns (record { proc = p; label = deed.label } ∷ before) t.sent sends p turn (line_text deed.label))
-    ∙ ap (λ one. printed_lines before ++ one) (sym (line_out t.sent sends p turn (line_text deed.label)))
-
-delivery_prints : {S : Type 0} → (t : Told S) (q : ℕ) (letters : List Letter) (before : List Turn) →
-    printed_lines (turns_onto before (delivery_records t q letters)) ≡ printed_lines before ++ joined (lines_of (delivery_records t q letters))
-delivery_prints t q [] before = sym (append-nil (printed_lines before))
-delivery_prints t q (letter ∷ letters) before =
-    no_lines before t.sent (handled q (t.processors q) letter.msg.from.0 letter.msg.carry.turn letter.msg.body).sends
-
-unit_prints : {S : Type 0} → (setup : Setup) (threads : Semantics S) (t : Told S) (act : Act) (before : List Turn) →
-    printed_lines (turns_onto before (unit_records setup threads t act)) ≡ printed_lines before ++ joined (lines_of (unit_records setup threads t act))
-unit_prints setup threads t (Act.Step p) before = step_prints setup threads t p.0 (own_turn setup threads p.0 (t.processors p.0)) before
-unit_prints setup threads t (Act.Deliver p q) before = delivery_prints t q.0 (t.under_way p.0 q.0) before
-unit_prints setup threads t _ before = sym (append-nil (printed_lines before))
-
-next_history : (unit : ℕ) (records : List Rec) (before : List Group) → history (with_unit unit records before) ≡ turns_onto (history before) records
-next_history unit [] before = refl
-next_history unit (one ∷ others) before = refl
+-- records put out their lines behind what went out before
+out_behind : (before : List ℕ) (records : List Rec) → output_onto before records ≡ before ++ joined (lines_of records)
+out_behind before [] = sym (append-nil before)
+out_behind before (Rec.Out p turn text ∷ others) =
+    out_behind (before ++ printed_line p.0 text) others ∙ append_assoc before (printed_line p.0 text) (joined (lines_of others))
+out_behind before (Rec.Turn p turn label lines ∷ others) = out_behind before others
+out_behind before (one ∷ others) = out_behind before others
 
 -- a unit adds the lines of its records
-pub lines_of_unit : {S : Type 0} → (setup : Setup) (threads : Semantics S) (t : Told S) (act : Act) (unit : ℕ) (before : List Group) →
-    lines_of_trace (with_unit unit (unit_records setup threads t act) before) ≡ lines_of_trace before ++ joined (lines_of (unit_records setup threads t act))
-lines_of_unit setup threads t act unit before =
-    ap printed_lines (next_history unit (unit_records setup threads t act) before) ∙ unit_prints setup threads t act (history before)
+pub lines_of_unit : (unit : ℕ) (records : List Rec) (before : List Group) → output_of (with_unit unit records before) ≡ output_of before ++ joined (lines_of records)
+lines_of_unit unit [] before = sym (append-nil (output_of before))
+lines_of_unit unit (one ∷ others) before = out_behind (output_of before) (one ∷ others)

@@ -31,33 +31,7 @@ IsProgramText files name text = IsText files name 262144 text
 abbrev pub IsScheduleText : Contents → List ℕ → List ℕ → Type 0
 IsScheduleText files name text = IsText files name 4194304 text
 
--- What `run` takes.
-
--- the tokens of a text are those of a small program
-pub record IsProgram (text : List ℕ) (program : SmallProgram) : Type 0 where
-  pub tokens : List Token
-  pub lexed : IsLexed text tokens
-  pub spelled : IsSpelled tokens program
-
--- the file has a small program
-pub record HasProgram (files : Contents) (name : List ℕ) (program : SmallProgram) : Type 0 where
-  pub text : List ℕ
-  pub is_read : IsProgramText files name text
-  pub is_program : IsProgram text program
-
--- the file has a schedule for two processors: these entries, all of which can be run
-pub record HasSchedule (files : Contents) (name : List ℕ) (entries : List Entry) : Type 0 where
-  pub text : List ℕ
-  pub is_read : IsScheduleText files name text
-  pub is_schedule : built_said text ≡ Ok (2, entries)
-
--- the first file has a program, and the second a schedule
-pub record IsAccepted (files : Contents) (program_name schedule_name : List ℕ)
-    (program : SmallProgram) (entries : List Entry) : Type 0 where
-  pub has_program : HasProgram files program_name program
-  pub has_schedule : HasSchedule files schedule_name entries
-
--- What `check` and `plain` take.
+-- Programs that the rules accept.
 
 -- the tokens of a text spell a tree, which by the rules is this program
 pub record IsChecked (text : List ℕ) (program : Program) : Type 0 where
@@ -78,8 +52,36 @@ pub record HasFitting (files : Contents) (name : List ℕ) (procs : ℕ) (progra
   pub has_program : HasChecked files name program
   pub fits : fitting program procs ≡ Ok tt
 
+-- What `plain` takes.
+
 -- the file has a list of picks: for so many processors, these entries
 pub record HasPicks (files : Contents) (name : List ℕ) (procs : ℕ) (entries : List PickEntry) : Type 0 where
   pub text : List ℕ
   pub is_read : IsScheduleText files name text
   pub are_picks : picks_said text ≡ Ok (procs, entries)
+
+-- What `run` takes.
+
+-- the tokens of a text are those of a small program
+pub record IsProgram (text : List ℕ) (program : SmallProgram) : Type 0 where
+  pub tokens : List Token
+  pub lexed : IsLexed text tokens
+  pub spelled : IsSpelled tokens program
+
+-- the file has a program that the rules accept and that fits so many processors; it is this small one
+pub record HasProgram (files : Contents) (name : List ℕ) (procs : ℕ) (small : SmallProgram) : Type 0 where
+  pub found : Program
+  pub has_fitting : HasFitting files name procs found
+  pub is_small : IsProgram has_fitting.has_program.text small
+
+-- the file has a schedule for so many processors: these entries, all of which can be run
+pub record HasSchedule (files : Contents) (name : List ℕ) (procs : ℕ) (entries : List Entry) : Type 0 where
+  pub text : List ℕ
+  pub is_read : IsScheduleText files name text
+  pub is_schedule : built_said text ≡ Ok (procs, entries)
+
+-- the first file has a program, and the second a schedule
+pub record IsAccepted (files : Contents) (program_name schedule_name : List ℕ)
+    (small : SmallProgram) (procs : ℕ) (entries : List Entry) : Type 0 where
+  pub has_program : HasProgram files program_name procs small
+  pub has_schedule : HasSchedule files schedule_name procs entries

@@ -1,10 +1,9 @@
 -- How a call ended, and what it left.
-use Rattle.std.specs.Prelude.{◌≡◌, ◌⊎◌, ℕ, ◌≤◌, false, List, [], ◌∷◌, ◌++◌, length, take, reverse, Option, Some, codes, refl}
+use Rattle.std.specs.Prelude.{◌≡◌, ◌⊎◌, ℕ, ◌≤◌, false, List, [], ◌∷◌, ◌++◌, length, take, reverse, Option, Some, codes, IsTrue}
 use Rattle.dsm_base.specs.Causes.{Rose}
 use Rattle.dsm_base.specs.Output.{printed_lines}
 use Rattle.dsm_base.specs.Sink.{appended, TakesPart}
 use Rattle.dsm_base.specs.declared.act.Act.{Act}
-use Rattle.dsm_base.specs.declared.label.Ending.{Ending}
 use Rattle.dsm_base.specs.declared.names.Proc.{Proc}
 use Rattle.dsm_base.specs.Plain.{Turn}
 use Rattle.dsm_check.specs.Programs.{Program}
@@ -12,20 +11,21 @@ use Rattle.dsm_sched.specs.declared.picks.PickEntry.{PickEntry}
 use Rattle.dsm_sched.specs.declared.schedule.Entry.{Entry}
 use Rattle.dsm_sched.specs.Picks.{picked_by}
 use Rattle.dsm_sched.specs.Schedules.{units_by}
-use Rattle.dsm_trace.specs.declared.trace.Group.{Group}
-use Rattle.dsm_trace.specs.Fits.{FitsUnits}
-use Rattle.dsm_trace.specs.History.{history, deeds_of, ending_of}
-use Rattle.dsm_trace.specs.OneMemory.{IsOneMemory}
+use Rattle.dsm_net.specs.declared.trace.Group.{Group}
+use Rattle.dsm_net.specs.Fits.{FitsUnits, run_of}
+use Rattle.dsm_net.specs.Story.{history}
 use Rattle.dsm_small.specs.declared.tree.SmallProgram.{SmallProgram}
 use Rattle.dsm_small.specs.Meaning.{small_first, small_semantics}
 use Rattle.dsm_small.specs.Setups.{small_setup}
 use Rattle.dsm_base.specs.declared.finished.Finished.{Finished}
 use Rattle.dsm_base.specs.Endings.{endings_of, finished_by}
+use Rattle.dsm_base.specs.Setups.{is_proc_count}
 use Rattle.dsm_top.specs.declared.status.Status.{Status}
 use Rattle.dsm_top.specs.declared.status.Report.{Report}
 use Rattle.dsm_command.specs.Commands.{Command, run, check, plain}
 use Rattle.dsm_top.specs.Messages.{message_of}
 use Rattle.dsm_top.specs.Statuses.{status_of_finished}
+use Rattle.dsm_top.specs.Lawful.{IsLawful}
 use Rattle.dsm_top.specs.Accepted.{IsAccepted, HasFitting, HasPicks}
 use Rattle.dsm_top.specs.PickRuns.{IsRunByPicks}
 use Rattle.dsm_top.specs.Refusals.{Given, Refuses}
@@ -103,34 +103,31 @@ Went units threads lines left status = WentThrough units threads lines left stat
 
 -- `run`.
 
--- the trace of so many units of a schedule, by which the program's threads ran over one memory
-pub record IsRun (program : SmallProgram) (schedule : List Act) (units : ℕ) (trace : List Group) : Type 0 where
+-- the trace of so many units of a schedule, which the program's threads, one a processor, have made
+pub record IsRun (program : SmallProgram) (procs : ℕ) (count : IsTrue (is_proc_count procs))
+    (schedule : List Act) (units : ℕ) (trace : List Group) : Type 0 where
   pub within : units ≤ length schedule
-  pub fits : FitsUnits (small_setup program 2 refl) (small_first program 2) small_semantics
+  pub fits : FitsUnits (small_setup program procs count) (small_first program procs) small_semantics
       (reverse (take units schedule)) trace
-  pub one_memory : IsOneMemory (small_setup program 2 refl) (small_first program 2) small_semantics
-      trace
+  pub lawful : IsLawful (small_setup program procs count) (small_first program procs) small_semantics
+      (run_of (small_setup program procs count) (small_first program procs) small_semantics
+      fits.done).net trace
 
--- how each thread of a trace came to be over
-abbrev pub endings_in : List Group → ℕ → Option Ending
-endings_in trace p = ending_of (deeds_of p trace)
-
--- the bytes that a trace prints
-abbrev pub lines_of_trace : List Group → List ℕ
-lines_of_trace trace = printed_lines (history trace)
-
--- what a run of a program by a schedule leaves
-pub record Ran (program : SmallProgram) (schedule : List Act) (left : Left) (status : Status) : Type 0 where
-  pub is_run : IsRun program schedule left.units left.trace
-  pub went : Went (length schedule) (finished_by 2 (endings_in left.trace)) (lines_of_trace left.trace)
-      left status
+-- what a run of a program by a schedule for so many processors leaves
+pub record Ran (program : SmallProgram) (procs : ℕ) (schedule : List Act) (left : Left)
+    (status : Status) : Type 0 where
+  pub count : IsTrue (is_proc_count procs)
+  pub is_run : IsRun program procs count schedule left.units left.trace
+  pub went : Went (length schedule) (finished_by procs (endings_of (history left.trace)))
+      (printed_lines (history left.trace)) left status
 
 -- `run`, with a program and a schedule that are accepted
 pub record EndedRun (given : Given) (program schedule : List ℕ) (left : Left) (status : Status) : Type 0 where
   pub small : SmallProgram
+  pub procs : ℕ
   pub entries : List Entry
-  pub accepted : IsAccepted given.files program schedule small entries
-  pub ran : Ran small (units_by 2 entries) left status
+  pub accepted : IsAccepted given.files program schedule small procs entries
+  pub ran : Ran small procs (units_by procs entries) left status
 
 -- `check`.
 

@@ -5,6 +5,7 @@ pub mod Messages
 pub mod Accepted
 pub mod PickRuns
 pub mod Refusals
+pub mod Lawful
 pub mod Ended
 pub mod Runs
 pub mod Prepared

@@ -8,7 +8,6 @@ use Rattle.dsm_check.specs.CheckedViews.{program_of}
 use Rattle.dsm_check.specs.Setups.{fitting}
 use Rattle.dsm_top.specs.declared.status.Status.{Status}
 use Rattle.dsm_top.specs.declared.prepare.Prepared.{Prepared}
-use Rattle.dsm_top.specs.declared.prepare.SmallRun.{SmallRun}
 use Rattle.dsm_top.specs.declared.prepare.PickRun.{PickRun}
 use Rattle.dsm_command.specs.Commands.{Command, run, check, plain}
 use Rattle.dsm_top.specs.Accepted.{Contents, IsAccepted, IsChecked, HasFitting, HasPicks}
@@ -51,24 +50,20 @@ pub record Keeps (span : Span) (files : Contents) : Type 0 where
   pub same : files ≡ span.files
   pub later : span.before ≤ span.after
 
--- a run can begin: the schedule is for two processors
-abbrev pub CanRun : SmallRun → Type 0
-CanRun prepared = prepared.schedule.procs ≡ 2
-
 -- a run over one memory can begin: each owner is a processor
 abbrev pub CanPick : PickRun → Type 0
 CanPick prepared = fitting (program_of prepared.program) prepared.picks.procs ≡ Ok tt
 
 -- what a command needs stands ready
 abbrev pub IsReady : Prepared → Type 0
-IsReady (Prepared.Run prepared) = CanRun prepared
+IsReady (Prepared.Run prepared) = Unit {0}
 IsReady Prepared.Check = Unit {0}
 IsReady (Prepared.Plain prepared) = CanPick prepared
 
 -- what a command names is accepted, and this stands ready for it
 abbrev pub IsPrepared : Contents → Option Command → Prepared → Type 0
 IsPrepared files (Some (run program schedule false false)) (Prepared.Run prepared) =
-    IsAccepted files program schedule prepared.program prepared.schedule.entries
+    IsAccepted files program schedule prepared.program prepared.schedule.procs prepared.schedule.entries
 IsPrepared files (Some (check program procs)) Prepared.Check =
     (found : Program) × HasFitting files program procs found
 IsPrepared files (Some (plain program picks)) (Prepared.Plain prepared) =

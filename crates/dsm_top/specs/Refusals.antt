@@ -12,12 +12,13 @@ use Rattle.dsm_parse.specs.Refusals.{IsRefused as AreTokensRefused}
 use Rattle.dsm_check.specs.Programs.{Program, checked}
 use Rattle.dsm_check.specs.Setups.{fitting}
 use Rattle.dsm_sched.specs.declared.picks.PickEntry.{PickEntry}
+use Rattle.dsm_sched.specs.declared.schedule.Entry.{Entry}
 use Rattle.dsm_sched.specs.PickTexts.{picks_said}
 use Rattle.dsm_sched.specs.Built.{built_said}
 use Rattle.dsm_small.specs.declared.tree.SmallProgram.{SmallProgram}
 use Rattle.dsm_top.specs.declared.status.Status.{Status}
 use Rattle.dsm_command.specs.Commands.{Command, run, check, plain, load}
-use Rattle.dsm_top.specs.Accepted.{Contents, IsProgram, IsProgramText, IsScheduleText, HasProgram, HasChecked, HasPicks}
+use Rattle.dsm_top.specs.Accepted.{Contents, IsProgram, IsProgramText, IsScheduleText, HasChecked, HasFitting, HasPicks, HasSchedule}
 
 -- what a call was given: the command that its words are, what the files hold, and how often they had
 -- failed before it and have after it
@@ -40,56 +41,7 @@ given_by holds faults command old new = record {
 abbrev pub FilesRose : Given → Type 0
 FilesRose given = Rose given.faults_before given.faults_after
 
--- What `run` refuses.
-
--- the text is no small program
-abbrev pub IsNoProgram : List ℕ → Type 0
-IsNoProgram text = (program : SmallProgram) → IsProgram text program → ⊥
-
--- what a reader of small programs answers; out of memory owes nothing
-abbrev pub IsReadProgram : List ℕ → Result SmallProgram ProgErr → Type 0
-IsReadProgram text (Ok program) = IsProgram text program
-IsReadProgram text (Err (ProgErr.NotBuilt line)) = (line ≡ 0) × IsNoProgram text
-IsReadProgram text (Err ProgErr.Memory) = Unit {0}
-IsReadProgram text (Err _) = ⊥
-
--- the program was read, and is none
-pub record HasNoProgram (files : Contents) (name : List ℕ) : Type 0 where
-  pub text : List ℕ
-  pub is_read : IsProgramText files name text
-  pub is_none : IsNoProgram text
-
--- the schedule was read, and is refused
-pub record HasNoSchedule (files : Contents) (name : List ℕ) (error : SchedErr) : Type 0 where
-  pub text : List ℕ
-  pub is_read : IsScheduleText files name text
-  pub is_refused : built_said text ≡ Err error
-
--- the program of `run` couldn't be read, or is none
-abbrev pub RefusesSmall : Given → List ℕ → Status → Type 0
-RefusesSmall given name (Status.ReadFault zero) = FilesRose given
-RefusesSmall given name (Status.ProgramRefused error) =
-    (error ≡ ProgErr.NotBuilt 0) × HasNoProgram given.files name
-RefusesSmall given name _ = ⊥
-
--- the schedule couldn't be read, or is refused
-abbrev pub RefusesSchedule : Given → List ℕ → Status → Type 0
-RefusesSchedule given name (Status.ReadFault (suc zero)) = FilesRose given
-RefusesSchedule given name (Status.ScheduleRefused error) = HasNoSchedule given.files name error
-RefusesSchedule given name _ = ⊥
-
--- the program is one, and the schedule behind it is refused
-pub record RefusesScheduleBehind (given : Given) (program schedule : List ℕ) (status : Status) : Type 0 where
-  pub found : SmallProgram
-  pub has_program : HasProgram given.files program found
-  pub refused : RefusesSchedule given schedule status
-
--- first the program, then the schedule
-abbrev pub RefusesRun : Given → List ℕ → List ℕ → Status → Type 0
-RefusesRun given program schedule status =
-    RefusesSmall given program status ⊎ RefusesScheduleBehind given program schedule status
-
--- What `check` and `plain` refuse.
+-- Programs that the rules refuse.
 
 -- why a text is no program that the rules accept
 pub data IsUnchecked (text : List ℕ) (error : ProgErr) : Type 0 where
@@ -114,18 +66,6 @@ RefusesProgram given name (Status.ReadFault zero) = FilesRose given
 RefusesProgram given name (Status.ProgramRefused error) = HasUnchecked given.files name error
 RefusesProgram given name _ = ⊥
 
--- the picks were read, and are refused
-pub record HasNoPicks (files : Contents) (name : List ℕ) (error : SchedErr) : Type 0 where
-  pub text : List ℕ
-  pub is_read : IsScheduleText files name text
-  pub is_refused : picks_said text ≡ Err error
-
--- the picks couldn't be read, or are refused
-abbrev pub RefusesPicks : Given → List ℕ → Status → Type 0
-RefusesPicks given name (Status.ReadFault (suc zero)) = FilesRose given
-RefusesPicks given name (Status.ScheduleRefused error) = HasNoPicks given.files name error
-RefusesPicks given name _ = ⊥
-
 -- an owner is no processor; the first such is told
 abbrev pub RefusesOwner : Program → ℕ → Status → Type 0
 RefusesOwner program procs (Status.ProgramRefused error) = fitting program procs ≡ Err error
@@ -137,10 +77,26 @@ pub record RefusesOwners (given : Given) (program : List ℕ) (procs : ℕ) (sta
   pub has_program : HasChecked given.files program found
   pub refused : RefusesOwner found procs status
 
+-- What `check` refuses.
+
 -- first the program, then the owners
 abbrev pub RefusesCheck : Given → List ℕ → ℕ → Status → Type 0
 RefusesCheck given program procs status =
     RefusesProgram given program status ⊎ RefusesOwners given program procs status
+
+-- What `plain` refuses.
+
+-- the picks were read, and are refused
+pub record HasNoPicks (files : Contents) (name : List ℕ) (error : SchedErr) : Type 0 where
+  pub text : List ℕ
+  pub is_read : IsScheduleText files name text
+  pub is_refused : picks_said text ≡ Err error
+
+-- the picks couldn't be read, or are refused
+abbrev pub RefusesPicks : Given → List ℕ → Status → Type 0
+RefusesPicks given name (Status.ReadFault (suc zero)) = FilesRose given
+RefusesPicks given name (Status.ScheduleRefused error) = HasNoPicks given.files name error
+RefusesPicks given name _ = ⊥
 
 -- the program is accepted, and the picks behind it are refused
 pub record RefusesPicksBehind (given : Given) (program picks : List ℕ) (status : Status) : Type 0 where
@@ -160,6 +116,65 @@ abbrev pub RefusesPlain : Given → List ℕ → List ℕ → Status → Type 0
 RefusesPlain given program picks status =
     RefusesProgram given program status ⊎
     (RefusesPicksBehind given program picks status ⊎ RefusesOwnersBehind given program picks status)
+
+-- What `run` refuses.
+
+-- the text is no small program
+abbrev pub IsNoProgram : List ℕ → Type 0
+IsNoProgram text = (program : SmallProgram) → IsProgram text program → ⊥
+
+-- what a reader of small programs answers; out of memory owes nothing
+abbrev pub IsReadProgram : List ℕ → Result SmallProgram ProgErr → Type 0
+IsReadProgram text (Ok program) = IsProgram text program
+IsReadProgram text (Err (ProgErr.NotBuilt line)) = (line ≡ 0) × IsNoProgram text
+IsReadProgram text (Err ProgErr.Memory) = Unit {0}
+IsReadProgram text (Err _) = ⊥
+
+-- the schedule was read, and is refused
+pub record HasNoSchedule (files : Contents) (name : List ℕ) (error : SchedErr) : Type 0 where
+  pub text : List ℕ
+  pub is_read : IsScheduleText files name text
+  pub is_refused : built_said text ≡ Err error
+
+-- the schedule couldn't be read, or is refused
+abbrev pub RefusesSchedule : Given → List ℕ → Status → Type 0
+RefusesSchedule given name (Status.ReadFault (suc zero)) = FilesRose given
+RefusesSchedule given name (Status.ScheduleRefused error) = HasNoSchedule given.files name error
+RefusesSchedule given name _ = ⊥
+
+-- the program is accepted, and the schedule behind it is refused
+pub record RefusesScheduleBehind (given : Given) (program schedule : List ℕ) (status : Status) : Type 0 where
+  pub found : Program
+  pub has_program : HasChecked given.files program found
+  pub refused : RefusesSchedule given schedule status
+
+-- both are accepted, but an owner is none of the schedule's processors
+pub record RefusesOwnersOfRun (given : Given) (program schedule : List ℕ) (status : Status) : Type 0 where
+  pub procs : ℕ
+  pub entries : List Entry
+  pub has_schedule : HasSchedule given.files schedule procs entries
+  pub refused : RefusesOwners given program procs status
+
+-- the program isn't of the small form
+abbrev pub RefusesForm : List ℕ → Status → Type 0
+RefusesForm text (Status.ProgramRefused error) = (error ≡ ProgErr.NotBuilt 0) × IsNoProgram text
+RefusesForm text _ = ⊥
+
+-- all is accepted, but the program isn't of the form that can be run yet
+pub record IsNotBuilt (given : Given) (program schedule : List ℕ) (status : Status) : Type 0 where
+  pub procs : ℕ
+  pub entries : List Entry
+  pub has_schedule : HasSchedule given.files schedule procs entries
+  pub found : Program
+  pub has_fitting : HasFitting given.files program procs found
+  pub refused : RefusesForm has_fitting.has_program.text status
+
+-- first the program, then the schedule, then the owners, and last the form
+abbrev pub RefusesRun : Given → List ℕ → List ℕ → Status → Type 0
+RefusesRun given program schedule status =
+    RefusesProgram given program status ⊎
+    (RefusesScheduleBehind given program schedule status ⊎
+    (RefusesOwnersOfRun given program schedule status ⊎ IsNotBuilt given program schedule status))
 
 -- Any call.
 

@@ -4,13 +4,13 @@ use Rattle.dsm_base.specs.declared.act.Act.{Act}
 use Rattle.dsm_base.specs.declared.errors.ReadErr.{ReadErr}
 use Rattle.dsm_base.specs.Sink.{TakesPart}
 use Rattle.dsm_base.specs.Threads.{Kind}
-use Rattle.dsm_trace.specs.Fits.{FitsUnits}
+use Rattle.dsm_net.specs.Fits.{Done, FitsUnits, acts_of}
 use Rattle.dsm_small.specs.declared.thread.SmallMaker.{SmallMaker}
 use Rattle.dsm_small.specs.declared.thread.SmallThread.{SmallThread}
 use Rattle.dsm_small.specs.declared.state.SmallState.{SmallState}
 use Rattle.dsm_small.specs.Meaning.{small_first, small_semantics}
-use Rattle.dsm_world.specs.declared.world.World.{World}
-use Rattle.dsm_world.specs.World.{setup_of, first_of, groups_of, units_of, IsWhole}
+use Rattle.dsm_network.specs.declared.world.World.{World}
+use Rattle.dsm_network.specs.World.{setup_of, first_of, groups_of, units_of, IsRunOf, IsWhole}
 use Rattle.dsm_top.specs.Ended.{TakesFront}
 
 -- a world of small threads
@@ -32,6 +32,12 @@ IsWholeWorld world = IsWhole small_kind first_by world
 -- the first states of its threads
 abbrev pub first_in : SmallWorld → ℕ → SmallState
 first_in world = first_of first_by world
+
+-- what the world holds was made by the first units of a schedule, as many as were applied
+pub record IsMadeBy (schedule : List Act) (world : SmallWorld) : Type 0 where
+  pub done : List Done
+  pub acts : acts_of done ≡ reverse (take (units_of world) schedule)
+  pub run : IsRunOf small_kind first_by done world
 
 -- the trace fits the first units of a schedule, as many as were applied
 abbrev pub FitsFirst : SmallWorld → List Act → Type 0

@@ -2,7 +2,7 @@
 #![tactic(auto)]
 
 mod check;
-mod host;
+mod laws;
 mod lines;
 mod message;
 mod output;
@@ -13,6 +13,6 @@ mod run;
 mod status;
 mod tool;
 
-pub use host::{HostFiles, StdSink};
+pub use laws::accepted_or_refused;
 pub use status::{Report, Status};
 pub use tool::run_tool;

@@ -3,10 +3,10 @@
 ghost use Rattle.std.specs.Prelude.{◌≡◌, ◌||◌, true, false, Some, Ok, string_bytes, IfOk, IfErr, MatchResult};
 ghost use Rattle.dsm_check.specs.CheckedViews.{program_of};
 ghost use Rattle.dsm_check.specs.Setups.{fitting};
-ghost use Rattle.dsm_top.specs.Accepted.{IsText, HasProgram, HasSchedule, IsAccepted, HasChecked, HasFitting, HasPicks};
+ghost use Rattle.dsm_top.specs.Accepted.{IsText, IsProgramText, IsChecked, HasSchedule, IsAccepted, HasFitting, HasPicks};
 ghost use Rattle.dsm_command.specs.InCode.{command_in};
-ghost use Rattle.dsm_top.specs.Refusals.{given_by, RefusesSmall, RefusesSchedule, RefusesRun, RefusesProgram, RefusesPicks, RefusesOwner, RefusesCheck, RefusesPlain, RefusesOrMemory};
-ghost use Rattle.dsm_top.specs.Prepared.{span_of, IsUnread, RefusesIn, Keeps, CanRun, CanPick, IsReady, IsPrepared};
+ghost use Rattle.dsm_top.specs.Refusals.{given_by, RefusesSchedule, RefusesRun, RefusesProgram, RefusesPicks, RefusesOwner, RefusesCheck, RefusesPlain, RefusesOrMemory};
+ghost use Rattle.dsm_top.specs.Prepared.{span_of, IsUnread, RefusesIn, Keeps, CanPick, IsReady, IsPrepared};
 
 use crate::program::{read_checked, read_program};
 use crate::status::Status;
@@ -63,24 +63,11 @@ fn read_text<F: Files>(
     }
 }
 
-/// Reads the program of `run`.
-fn small_of<F: Files>(alloc: Global, name: &String, files: &mut F) -> Result<SmallProgram, Status>
-    ensures program { IfOk result (HasProgram (F.files_hold files.old) (string_bytes name.now)) }
-    ensures refused { IfErr result
-        (RefusesIn (span_of F.files_hold F.files_faults files.old files.new)
-        (λ given. RefusesSmall given (string_bytes name.now))) }
-    ensures keeps { Keeps (span_of F.files_hold F.files_faults files.old files.new)
-        (F.files_hold files.new) }
-{
-    let text = read_text(alloc, files, name, MOST_TEXT, 0)?;
-    Ok(read_program(alloc, text.as_slice())?)
-}
-
 /// Reads the schedule of `run`.
 fn schedule_of<F: Files>(alloc: Global, name: &String, files: &mut F) -> Result<Schedule, Status>
     ensures schedule { IfOk result (λ schedule.
-        HasSchedule (F.files_hold files.old) (string_bytes name.now) schedule.entries) }
-    ensures procs { IfOk result (λ schedule. schedule.procs ≡ 2) }
+        HasSchedule (F.files_hold files.old) (string_bytes name.now)
+        schedule.procs schedule.entries) }
     ensures refused { IfErr result
         (RefusesIn (span_of F.files_hold F.files_faults files.old files.new)
         (λ given. RefusesSchedule given (string_bytes name.now))) }
@@ -91,10 +78,19 @@ fn schedule_of<F: Files>(alloc: Global, name: &String, files: &mut F) -> Result<
     Ok(read_schedule(alloc, text.as_slice())?)
 }
 
+/// A text, and the program that it is.
+#[derive(Drop)]
+struct CheckedText {
+    text: Vec<u8>,
+    program: Checked,
+}
+
 /// Reads a program of the whole language.
-fn checked_of<F: Files>(alloc: Global, name: &String, files: &mut F) -> Result<Checked, Status>
-    ensures program { IfOk result (λ program.
-        HasChecked (F.files_hold files.old) (string_bytes name.now) (program_of program)) }
+fn checked_of<F: Files>(alloc: Global, name: &String, files: &mut F) -> Result<CheckedText, Status>
+    ensures text { IfOk result (λ found.
+        IsProgramText (F.files_hold files.old) (string_bytes name.now) found.text.items) }
+    ensures program { IfOk result (λ found.
+        IsChecked found.text.items (program_of found.program)) }
     ensures refused { IfErr result
         (RefusesIn (span_of F.files_hold F.files_faults files.old files.new)
         (λ given. RefusesProgram given (string_bytes name.now))) }
@@ -102,7 +98,8 @@ fn checked_of<F: Files>(alloc: Global, name: &String, files: &mut F) -> Result<C
         (F.files_hold files.new) }
 {
     let text = read_text(alloc, files, name, MOST_TEXT, 0)?;
-    Ok(read_checked(alloc, text.as_slice())?)
+    let program = read_checked(alloc, text.as_slice())?;
+    Ok(CheckedText { text, program })
 }
 
 /// Reads a list of picks.
@@ -138,7 +135,8 @@ fn test_flags(trace: bool, state: bool) -> Result<(), Status>
     Ok(())
 }
 
-/// Reads the program and the schedule of `run`.
+/// Reads the program and the schedule of `run`, tests the owners, and then whether the program is of
+/// the small form.
 fn prepare_run<F: Files>(
     alloc: Global,
     program: &String,
@@ -147,14 +145,15 @@ fn prepare_run<F: Files>(
 ) -> Result<SmallRun, Status>
     ensures accepted { IfOk result (λ prepared. IsAccepted (F.files_hold files.old)
         (string_bytes program.now) (string_bytes schedule.now)
-        prepared.program prepared.schedule.entries) }
-    ensures ready { IfOk result CanRun }
+        prepared.program prepared.schedule.procs prepared.schedule.entries) }
     ensures refused { IfErr result
         (RefusesIn (span_of F.files_hold F.files_faults files.old files.new)
         (λ given. RefusesRun given (string_bytes program.now) (string_bytes schedule.now))) }
 {
-    let program = small_of(alloc, program, files)?;
+    let found = checked_of(alloc, program, files)?;
     let schedule = schedule_of(alloc, schedule, files)?;
+    test_owners(&found.program, schedule.procs)?;
+    let program = read_program(alloc, found.text.as_slice())?;
     Ok(SmallRun { program, schedule })
 }
 
@@ -171,9 +170,9 @@ fn prepare_check<F: Files>(
         (RefusesIn (span_of F.files_hold F.files_faults files.old files.new)
         (λ given. RefusesCheck given (string_bytes program.now) procs)) }
 {
-    let program = checked_of(alloc, program, files)?;
-    test_owners(&program, procs)?;
-    Ok(program)
+    let found = checked_of(alloc, program, files)?;
+    test_owners(&found.program, procs)?;
+    Ok(found.program)
 }
 
 /// Reads the program and the picks of `plain`, and tests the owners.
@@ -191,10 +190,13 @@ fn prepare_plain<F: Files>(
         (RefusesIn (span_of F.files_hold F.files_faults files.old files.new)
         (λ given. RefusesPlain given (string_bytes program.now) (string_bytes picks.now))) }
 {
-    let program = checked_of(alloc, program, files)?;
+    let found = checked_of(alloc, program, files)?;
     let picks = picks_of(alloc, picks, files)?;
-    test_owners(&program, picks.procs)?;
-    Ok(PickRun { program, picks })
+    test_owners(&found.program, picks.procs)?;
+    Ok(PickRun {
+        program: found.program,
+        picks,
+    })
 }
 
 /// Reads what a command names. `WordsRefused` for one that isn't built yet: `run` with a flag, and `load`.

@@ -4,8 +4,8 @@ ghost use Rattle.std.specs.Prelude.{◌≡◌, []};
 ghost use Rattle.dsm_top.specs.Statuses.{number_of_status};
 
 use dsm_base::{Finished, ReadErr, SchedErr};
+use dsm_records::Trace;
 use dsm_syntax::ProgErr;
-use dsm_trace::Trace;
 use std::alloc::Global;
 
 /// How a call ended.

@@ -188,7 +188,7 @@ impl<M: TaskMaker> World<M> {
     fn receive(&mut self, proc: Proc, msg: Msg) -> Result<Effects, MemFault>
         requires shape { IsShaped M.Made.kind self.old }
         requires proc { proc.0 < (setup_of self.old).procs }
-        requires msg { IsReceivable (setup_of self.old) msg }
+        requires msg { IsReceivable (setup_of self.old) proc.0 msg }
         ensures effects { IfOk result (λ effects. effects ≡
             effects_of (effect_of_message (setup_of self.old) proc.0 (processor_at M.Made.kind M.first self.old proc.0) msg)) }
         ensures net { OnOk result (net_of M.Made.kind M.first self.new ≡
@@ -210,7 +210,8 @@ impl<M: TaskMaker> World<M> {
             ((net_of M.Made.kind M.first self.old).channels from.0 to.0 ≡ [])
             (λ letter. (net_of M.Made.kind M.first self.old).channels from.0 to.0 ≡
             letter ∷ (net_of M.Made.kind M.first self.new).channels from.0 to.0)) }
-        ensures named { IfOk result (λ taken. IfSome taken (λ letter. IsReceivable (setup_of self.old) letter.msg)) }
+        ensures named { IfOk result (λ taken. IfSome taken
+            (λ letter. IsReceivable (setup_of self.old) to.0 letter.msg)) }
         ensures net { net_of M.Made.kind M.first self.new ≡
             with_letters (net_of M.Made.kind M.first self.old) from.0 to.0
             ((net_of M.Made.kind M.first self.new).channels from.0 to.0) }

@@ -1,6 +1,6 @@
 //! What a processor does with a body that comes to it.
 
-ghost use Rattle.std.specs.Prelude.{◌≡◌, ◌+◌, ◌++◌, ◌<◌, ◌&&◌, ◌==◌, ◌∷◌, [], false, None, not, nat_lt, map, filter, option_map, IfOk, IfSome, OnOk};
+ghost use Rattle.std.specs.Prelude.{◌≡◌, ◌+◌, ◌++◌, ◌<◌, ◌&&◌, ◌==◌, ◌∷◌, [], true, false, None, not, nat_lt, map, filter, option_map, IfOk, IfSome, OnOk};
 ghost use Rattle.std.specs.List.{All};
 ghost use Rattle.dsm_net.specs.Messages.{home_of, keeper_of};
 ghost use Rattle.dsm_home.specs.LockStates.{version_made};
@@ -85,10 +85,10 @@ impl<T: Task> Node<T> {
     ghost use Rattle.dsm_net.specs.Grants.{own_grant, grant_message, is_of};
     ghost use Rattle.dsm_net.specs.Effects.{may_ask, may_give, with_last, effect_of, effect_of_body, effect_of_message, effect_of_telling};
     ghost use Rattle.dsm_processor.specs.Node.{processor_of, setup_of, me_of, effects_of, IsShaped, IsWhole, IsSameNode};
-    ghost use Rattle.dsm_processor.specs.Names.{BodyNames, IsSendOf};
+    ghost use Rattle.dsm_processor.specs.Names.{BodyNames, IsKeptBy, IsSendOf};
 
     /// A message to another processor.
-    fn message(&self, to: Proc, body: Body) -> Msg
+    pub(super) fn message(&self, to: Proc, body: Body) -> Msg
         ensures { result ≡ message (me_of self.now) (processor_of T.kind self.now) to.0 body }
     {
         Msg {
@@ -250,6 +250,7 @@ impl<T: Task> Node<T> {
     ) -> Result<Sends, MemFault>
         requires shape { IsShaped self.old }
         requires from { from.0 < (setup_of self.old).procs }
+        requires newer { nat_lt ((processor_of T.kind self.old).peers from.0).last turn ≡ true }
         requires lock { lock.0 < (setup_of self.old).locks }
         ensures sends { IfOk result (λ sends. sends ≡
             (effect_of (setup_of self.old) (me_of self.old) (processor_of T.kind self.old) from.0
@@ -278,6 +279,7 @@ impl<T: Task> Node<T> {
     ) -> Result<Sends, MemFault>
         requires shape { IsShaped self.old }
         requires from { from.0 < (setup_of self.old).procs }
+        requires newer { nat_lt ((processor_of T.kind self.old).peers from.0).last turn ≡ true }
         requires lock { lock.0 < (setup_of self.old).locks }
         requires lines { AreNumbered (setup_of self.old).bindings lines.now }
         ensures sends { IfOk result (λ sends. sends ≡
@@ -357,6 +359,7 @@ impl<T: Task> Node<T> {
         requires shape { IsShaped self.old }
         requires from { from.0 < (setup_of self.old).procs }
         requires names { BodyNames (setup_of self.old) body }
+        requires kept { IsKeptBy (setup_of self.old) (me_of self.old) body }
         ensures sends { IfOk result (λ sends. sends ≡
             (effect_of_body (setup_of self.old) (me_of self.old) (processor_of T.kind self.old)
             from.0 turn body).sends) }
@@ -390,6 +393,10 @@ impl<T: Task> Node<T> {
                 })?;
                 Ok(Items::new(self.alloc))
             }
+            Body::Arrive { bar, epoch, lines } => {
+                self.arrival_comes(from, turn, bar, epoch, &lines)
+            }
+            Body::Opened { bar, epoch, lines } => self.opening_comes(bar, epoch, lines),
             _ => Ok(Items::new(self.alloc)),
         }
     }
@@ -399,6 +406,7 @@ impl<T: Task> Node<T> {
         requires whole { IsWhole T.kind self.old }
         requires from { from.0 < (setup_of self.old).procs }
         requires names { BodyNames (setup_of self.old) body }
+        requires kept { IsKeptBy (setup_of self.old) (me_of self.old) body }
         ensures sends { IfOk result (λ sends. sends ≡
             (effect_of_body (setup_of self.old) (me_of self.old) (processor_of T.kind self.old)
             from.0 turn body).sends) }
@@ -416,6 +424,7 @@ impl<T: Task> Node<T> {
     fn send(&self, to: Proc, body: Body) -> Result<Sends, MemFault>
         requires to { to.0 < (setup_of self.now).procs }
         requires names { BodyNames (setup_of self.now) body }
+        requires kept { IsKeptBy (setup_of self.now) to.0 body }
         ensures sends { IfOk result (λ sends. sends ≡
             message (me_of self.now) (processor_of T.kind self.now) to.0 body ∷ []) }
         ensures within { IfOk result (All (IsSendOf (setup_of self.now) (me_of self.now))) }
@@ -493,6 +502,7 @@ impl<T: Task> Node<T> {
         requires whole { IsWhole T.kind self.old }
         requires from { msg.from.0 < (setup_of self.old).procs }
         requires names { BodyNames (setup_of self.old) msg.body }
+        requires kept { IsKeptBy (setup_of self.old) (me_of self.old) msg.body }
         ensures effects { IfOk result (λ effects. effects ≡
             effects_of (effect_of_message (setup_of self.old) (me_of self.old)
             (processor_of T.kind self.old) msg)) }

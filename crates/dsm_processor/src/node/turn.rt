@@ -12,7 +12,7 @@ use super::{Node, Stepped};
 use crate::copy::change_copy;
 use crate::versions::change_versions;
 use dsm_base::{
-    Cell, Label, Lock, MemFault, Mode, Pending, PendingLine, Task, Text, Want, ending_after,
+    Bar, Cell, Label, Lock, MemFault, Mode, Pending, PendingLine, Task, Text, Want, ending_after,
     line_text,
 };
 use dsm_lines::LineList;
@@ -47,7 +47,7 @@ fn printed_by(alloc: Global, turn: u32, label: &Label) -> Result<Pending, MemFau
 }
 
 impl<T: Task> Node<T> {
-    ghost use Rattle.dsm_base.specs.Rights.{held_of};
+    ghost use Rattle.dsm_base.specs.Rights.{held_of, crossed_of};
     ghost use Rattle.dsm_base.specs.Threads.{Names};
     ghost use Rattle.dsm_lines.specs.OwnCopies.{copy_marks, copy_memory};
     ghost use Rattle.dsm_net.specs.Inputs.{input_for};
@@ -58,17 +58,43 @@ impl<T: Task> Node<T> {
     ghost use Rattle.dsm_processor.specs.Names.{LabelNames, IsSendOf};
     ghost use Rattle.dsm_processor.specs.Node.{processor_of, setup_of, me_of, own_of, IsShaped, IsWhole, IsSameNode, number_for, input_lines, label_with, label_for, advanced, release_with, body_with, stepped_by, processor_stepped};
 
-    /// The version of the lock that the thread wants to take, where its grant for this turn has come; 0 for
-    /// what needs no number. No barrier opens yet.
-    fn number_for(&self, turn: u32, want: Want) -> Option<u32>
+    /// The epoch into which a processor crosses a barrier next.
+    fn next_epoch(&self, bar: Bar) -> Result<u32, MemFault>
+        ensures { IfOk result (λ epoch. epoch ≡ crossed_of self.now.rights bar.0 + 1) }
+    {
+        self.rights.crossings_at(bar).checked_add(1).ok_or(MemFault)
+    }
+
+    /// The epoch of the opening that has come for a crossing.
+    fn epoch_for(&self, bar: Bar, epoch: u32) -> Option<u32>
+        requires { epoch ≡ crossed_of self.now.rights bar.0 + 1 }
+        ensures { result ≡ number_for (processor_of T.kind self.now) (Want.Cross bar) }
+    {
+        Some(self.mail.opening_of(bar, epoch)?.epoch)
+    }
+
+    /// The version of the lock that the thread wants to take, where its grant for this turn has come, or
+    /// the epoch into which it wants to cross, where its opening has; 0 for what needs no number.
+    fn number_for(&self, turn: u32, want: Want) -> Result<Option<u32>, MemFault>
         requires { turn ≡ self.now.turns + 1 }
-        ensures { result ≡ number_for (processor_of T.kind self.now) want }
+        ensures { IfOk result (λ number. number ≡ number_for (processor_of T.kind self.now) want) }
     {
         match want {
-            Want::Take(lock, _) => Some(self.mail.grant_for(turn, lock)?.version),
-            Want::Cross(_) => None,
-            _ => Some(0),
+            Want::Take(lock, _) => Ok(self.version_for(turn, lock)),
+            Want::Cross(bar) => {
+                let epoch = self.next_epoch(bar)?;
+                Ok(self.epoch_for(bar, epoch))
+            }
+            _ => Ok(Some(0)),
         }
+    }
+
+    /// The version of the grant that has come for a take.
+    fn version_for(&self, turn: u32, lock: Lock) -> Option<u32>
+        requires { turn ≡ self.now.turns + 1 }
+        ensures { (mode : Mode) → result ≡ number_for (processor_of T.kind self.now) (Want.Take lock mode) }
+    {
+        Some(self.mail.grant_for(turn, lock)?.version)
     }
 
     /// A load of a cell, or a fault where it isn't allowed.
@@ -130,29 +156,49 @@ impl<T: Task> Node<T> {
             (number_for (processor_of T.kind self.now) want) want) }
         ensures line { IfOk result (λ label. IfSome label PrintsLine) }
     {
-        match self.number_for(turn, want) {
+        match self.number_for(turn, want)? {
             None => Ok(None),
             Some(number) => self.own_label(number, want),
         }
     }
 
+    /// The lines of the opening that has come for a crossing.
+    fn opening_lines(&self, bar: Bar) -> Result<LineList, MemFault>
+        ensures { IfOk result (λ lines. lines ≡
+            input_lines (input_for (processor_of T.kind self.now) (Want.Cross bar))) }
+    {
+        let epoch = self.next_epoch(bar)?;
+        match self.mail.opening_of(bar, epoch) {
+            None => Ok(LineList::new(self.alloc)),
+            Some(opening) => opening.lines.copy(self.alloc),
+        }
+    }
+
     /// Takes the lines that have come for a turn out of the mailbox; what has come for later ones is kept.
-    fn collect(&mut self, turn: u32, want: Want) -> LineList
+    fn collect(&mut self, turn: u32, want: Want) -> Result<LineList, MemFault>
         requires shape { IsShaped self.old }
         requires turn { turn ≡ self.old.turns + 1 }
-        ensures lines { result ≡ input_lines (input_for (processor_of T.kind self.old) want) }
-        ensures processor { processor_of T.kind self.new ≡
+        ensures lines { IfOk result (λ lines. lines ≡
+            input_lines (input_for (processor_of T.kind self.old) want)) }
+        ensures processor { OnOk result (processor_of T.kind self.new ≡
             record (processor_of T.kind self.old)
-            { mail = mail_after (processor_of T.kind self.old).mail turn } }
+            { mail = mail_after (processor_of T.kind self.old).mail turn }) }
         ensures shape { IsShaped self.new }
         ensures same { IsSameNode self.old self.new }
         ensures task { self.new.task ≡ self.old.task }
     {
-        if let Want::Take(lock, _) = want {
-            return self.mail.collect(self.alloc, turn, lock);
+        match want {
+            Want::Take(lock, _) => Ok(self.mail.collect(self.alloc, turn, lock)),
+            Want::Cross(bar) => {
+                let lines = self.opening_lines(bar)?;
+                self.mail.keep_later(turn);
+                Ok(lines)
+            }
+            _ => {
+                self.mail.keep_later(turn);
+                Ok(LineList::new(self.alloc))
+            }
         }
-        self.mail.keep_later(turn);
-        LineList::new(self.alloc)
     }
 
     /// What the home of a lock is told when a hold in this mode ends, with the lines stored to in it.
@@ -180,7 +226,8 @@ impl<T: Task> Node<T> {
         requires shape { IsShaped self.now }
         requires names { LabelNames (setup_of self.now) label.now }
         ensures { IfOk result (λ body. body ≡
-            body_with (versions_of self.now.versions) (held_of self.now.rights) label.now given) }
+            body_with (versions_of self.now.versions) (held_of self.now.rights)
+            (crossed_of self.now.rights) label.now given) }
     {
         match label {
             Label::Ask(lock, mode) => Ok(Some(Body::Req {
@@ -192,6 +239,11 @@ impl<T: Task> Node<T> {
                 None => Ok(None),
                 Some(mode) => Ok(Some(self.release(*lock, mode, given)?)),
             },
+            Label::Arrive(bar) => Ok(Some(Body::Arrive {
+                bar: *bar,
+                epoch: self.rights.crossings_at(*bar),
+                lines: given,
+            })),
             _ => Ok(None),
         }
     }
@@ -265,7 +317,7 @@ impl<T: Task> Node<T> {
         let Some(label) = self.next_label(turn, want)? else {
             return Ok(None);
         };
-        let lines = self.collect(turn, want);
+        let lines = self.collect(turn, want)?;
         let body = self.make_turn(turn, &label, &lines)?;
         let sends = self.tell(body)?;
         let outs = printed_by(self.alloc, turn, &label)?;

@@ -38,8 +38,7 @@ pub fn read_picks(alloc: Global, bytes: &[u8]) -> Result<Picks, SchedErr>
 {
     test_length(bytes)?;
     let mut rows = Rows::new(bytes);
-    let heading = read_heading(alloc, &mut rows)?;
-    let procs = heading.procs;
+    let procs = read_heading(alloc, &mut rows)?;
     let entries = read_entries(alloc, procs, &mut rows)?;
     let count = count(procs, entries.as_slice());
     if count > MOST_UNITS as u64 {

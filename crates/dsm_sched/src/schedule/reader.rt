@@ -84,29 +84,22 @@ fn read_whole(alloc: Global, bytes: &[u8]) -> Result<Whole, SchedErr>
     ensures said { Gives (λ whole. (whole.procs, whole.entries)) result (schedule_said bytes.now) }
     ensures kept { IfOk result (λ whole. IsTrue (is_schedule whole.procs whole.entries)) }
     ensures unbuilt { IfOk result (λ whole.
-        whole.unbuilt ≡ unbuilt_in (rows_of bytes.now) whole.procs whole.entries) }
-    ensures two { IfOk result (λ whole. whole.unbuilt ≡ None → whole.procs ≡ 2) }
+        whole.unbuilt ≡ unbuilt_in (rows_of bytes.now) whole.entries) }
     ensures built { IfOk result (λ whole.
         whole.unbuilt ≡ None → list_all is_built whole.entries ≡ true) }
 {
     test_length(bytes)?;
     let mut rows = Rows::new(bytes);
-    let heading = read_heading(alloc, &mut rows)?;
-    let procs = heading.procs;
+    let procs = read_heading(alloc, &mut rows)?;
     let read = read_entries(alloc, procs, &mut rows)?;
     let count = count_units(procs, read.entries.as_slice());
     if count > MOST_UNITS as u64 {
         return Err(SchedErr::TooMany { count });
     }
-    let unbuilt = if procs == 2 {
-        read.unbuilt
-    } else {
-        Some(heading.line)
-    };
     Ok(Whole {
         procs,
         entries: read.entries,
-        unbuilt,
+        unbuilt: read.unbuilt,
     })
 }
 
@@ -115,12 +108,10 @@ fn read_whole(alloc: Global, bytes: &[u8]) -> Result<Whole, SchedErr>
 /// form, `OutOfRange` where a number isn't in its range, `SecondCrash` where a crash comes before it and
 /// it is one, `NoCrash` where it restarts a processor that isn't down; else `TooMany` where there are
 /// over 500,000 units; else `NotBuilt` with the line of the first entry that can't be run yet, which is
-/// `procs N` for more than two processors and any entry of images and crashes; `Memory` where there is
-/// no memory for it.
+/// any entry of images and crashes; `Memory` where there is no memory for it.
 pub fn read_schedule(alloc: Global, bytes: &[u8]) -> Result<Schedule, SchedErr>
     ensures said { Gives (λ schedule. (schedule.procs, schedule.entries)) result
         (built_said bytes.now) }
-    ensures procs { IfOk result (λ schedule. schedule.procs ≡ 2) }
     ensures built { IfOk result (λ schedule. IsTrue (list_all is_built schedule.entries)) }
 {
     let whole = read_whole(alloc, bytes)?;

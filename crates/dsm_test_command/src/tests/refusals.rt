@@ -1,7 +1,7 @@
 //! What is refused, in its order, and calls in which a read or a write fails.
 
 use crate::tests::called::{Called, Failed, are_right, fail_so};
-use crate::tests::programs::{ADDER, COUNTER, FIRST, OPEN, OWNED};
+use crate::tests::programs::{ADDER, COUNTER, FIRST, OPEN, OVERLAP, OWNED};
 use dsm_base::CallKind;
 use std::test::Fail;
 
@@ -148,6 +148,54 @@ fn refusals_come_in_their_order(rt: HostRuntime) -> Result<(), Fail> {
             words: "run prog none",
             program: COUNTER,
             other: "",
+            status: 6,
+            units: 0,
+            written: "dsm: cannot read none\n",
+        },
+        Called {
+            words: "run prog other",
+            program: COUNTER,
+            other: "procs 2\n",
+            status: 3,
+            units: 0,
+            written: "dsm: program refused: not built, line 0\n",
+        },
+        Called {
+            words: "run prog none",
+            program: OPEN,
+            other: "",
+            status: 3,
+            units: 0,
+            written: "dsm: program refused: unexpected token, line 2\n",
+        },
+        Called {
+            words: "run prog other",
+            program: OVERLAP,
+            other: "procs 2\n",
+            status: 3,
+            units: 0,
+            written: "dsm: program refused: cell 2 bound twice, line 4\n",
+        },
+        Called {
+            words: "run prog other",
+            program: OWNED,
+            other: "",
+            status: 4,
+            units: 0,
+            written: "dsm: schedule refused: no procs\n",
+        },
+        Called {
+            words: "run prog other",
+            program: OWNED,
+            other: "procs 3\n",
+            status: 3,
+            units: 0,
+            written: "dsm: program refused: owner 3 with 3 processors\n",
+        },
+        Called {
+            words: "run prog other",
+            program: OWNED,
+            other: "procs 4\n",
             status: 3,
             units: 0,
             written: "dsm: program refused: not built, line 0\n",

@@ -27,6 +27,22 @@ fn runs_print_their_lines(rt: HostRuntime) -> Result<(), Fail> {
         },
         Called {
             words: "run prog other",
+            program: ADDER,
+            other: "procs 3\n",
+            status: 2,
+            units: 0,
+            written: "",
+        },
+        Called {
+            words: "run prog other",
+            program: ADDER,
+            other: "procs 3\nfinish 20\n",
+            status: 0,
+            units: 180,
+            written: "P0: x=1\nP1: x=12\nP2: x=123\n",
+        },
+        Called {
+            words: "run prog other",
             program: STORED,
             other: "procs 2\nstep 0\nstep 1\n",
             status: 1,
@@ -95,14 +111,6 @@ fn schedules_are_refused(rt: HostRuntime) -> Result<(), Fail> {
             status: 4,
             units: 0,
             written: "dsm: schedule refused: no procs\n",
-        },
-        Called {
-            words: "run prog other",
-            program: ADDER,
-            other: "procs 3\n",
-            status: 4,
-            units: 0,
-            written: "dsm: schedule refused: not built, line 1\n",
         },
         Called {
             words: "run prog other",

@@ -49,7 +49,10 @@ fn refusals_come_in_their_order(rt: HostRuntime) -> Result<(), Fail> {
             "procs 16\nfinish 1954\n",
             SchedErr::TooMany { count: 500_224 },
         ),
-        ("procs 16\nfinish 1953\n", SchedErr::NotBuilt { line: 1 }),
+        (
+            "procs 16\nfinish 1953\nckpt 0\n",
+            SchedErr::NotBuilt { line: 3 },
+        ),
         ("\nprocs 2\ntorn 1 513\n", SchedErr::OutOfRange { line: 3 }),
         ("procs 2\nblock 0 500000\n", SchedErr::NotBuilt { line: 2 }),
         ("procs 2\ncrash 0 1\n", SchedErr::BadEntry { line: 2 }),

@@ -10,33 +10,37 @@ const B: Proc = Proc(1);
 
 #[test]
 fn texts_stand_for_schedules(rt: HostRuntime) -> Result<(), Fail> {
-    const TABLE: &[(&str, &[Entry])] = &[
-        ("procs 2", &[]),
-        ("\n# two processors\n \t\r\n\tprocs \t 2#2\r\n\n", &[]),
-        ("procs 2\nstep 0", &[Entry::Unit(Act::Step(A), 1)]),
+    const TABLE: &[(&str, u8, &[Entry])] = &[
+        ("procs 2", 2, &[]),
+        ("procs 16\nfinish 1", 16, &[Entry::Finish(1)]),
+        ("\n# two processors\n \t\r\n\tprocs \t 2#2\r\n\n", 2, &[]),
+        ("procs 2\nstep 0", 2, &[Entry::Unit(Act::Step(A), 1)]),
         (
             "procs 2\nstep 0\r\nstep 1 3\r\n",
+            2,
             &[Entry::Unit(Act::Step(A), 1), Entry::Unit(Act::Step(B), 3)],
         ),
         (
             "procs 2\n deliver\t0 1 2 # \u{e9}\n \ndeliver 1 0",
+            2,
             &[
                 Entry::Unit(Act::Deliver(A, B), 2),
                 Entry::Unit(Act::Deliver(B, A), 1),
             ],
         ),
-        ("procs 2\nfinish 1000\n", &[Entry::Finish(1000)]),
+        ("procs 2\nfinish 1000\n", 2, &[Entry::Finish(1000)]),
         (
             "procs 2\nstep 1 499999\ndeliver 1 0",
+            2,
             &[
                 Entry::Unit(Act::Step(B), 499_999),
                 Entry::Unit(Act::Deliver(B, A), 1),
             ],
         ),
     ];
-    for &(text, entries) in TABLE {
+    for &(text, procs, entries) in TABLE {
         let schedule = read_schedule(rt.alloc(), text.as_bytes())?;
-        assert_eq!(rt; schedule.procs, 2, "{text}");
+        assert_eq!(rt; schedule.procs, procs, "{text}");
         assert_eq!(rt; schedule.entries.as_slice(), entries, "{text}");
     }
     Ok(())
@@ -101,7 +105,6 @@ fn other_texts_are_refused(rt: HostRuntime) -> Result<(), Fail> {
             SchedErr::TooMany { count: 500_001 },
         ),
         // What can't be run yet.
-        ("procs 3\n", SchedErr::NotBuilt { line: 1 }),
         ("procs 2\nstep 0\nckpt 0\n", SchedErr::NotBuilt { line: 3 }),
         (
             "procs 2\ncrash 0\nrestart 0\n",

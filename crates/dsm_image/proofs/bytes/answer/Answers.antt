@@ -3,11 +3,11 @@ use Rattle.std.proofs.lemmas.Result.{err_from_is_err_and}
 use Rattle.dsm_base.specs.BigEndian.{IsBytes}
 use Rattle.dsm_base.specs.declared.errors.LoadErr.{LoadErr}
 use Rattle.dsm_image.specs.declared.image.Image.{Image}
-use Rattle.dsm_image.specs.declared.scope.Scope.{Scope}
+use Rattle.dsm_image_parts.specs.declared.scope.Scope.{Scope}
 use Rattle.dsm_image.specs.Frame.{IsFirstOther}
 use Rattle.dsm_image.specs.Reading.{front_at}
 use Rattle.dsm_image.specs.Answers.{front_answer}
-use Rattle.dsm_image.specs.Spelling.{scope_of}
+use Rattle.dsm_image_parts.specs.Spelling.{scope_of}
 use Rattle.dsm_image.proofs.Answering.{closed_fits, front_fits, image_fits, other_zeros_fit}
 use Rattle.dsm_image.proofs.bytes.answer.Goals as goal
 

@@ -1,4 +1,4 @@
-use Rattle.dsm_image.specs.Spelling.{scope_of}
+use Rattle.dsm_image_parts.specs.Spelling.{scope_of}
 use Rattle.dsm_image.proofs.Answering.{same_spelling}
 use Rattle.dsm_image.proofs.bytes.one_spelling.Goals as goal
 

@@ -1,6 +1,6 @@
 use Rattle.std.proofs.Common.{arith}
 use Rattle.dsm_base.specs.BigEndian.{IsBytes}
-use Rattle.dsm_image.specs.Spelling.{scope_of}
+use Rattle.dsm_image_parts.specs.Spelling.{scope_of}
 use Rattle.dsm_image.proofs.Answering.{or_weaker, same_answer}
 use Rattle.dsm_image.proofs.bytes.read_image.Goals as goal
 

@@ -1,8 +1,8 @@
 use Rattle.std.proofs.Common.{true}
 use Rattle.std.proofs.lemmas.Result.{on_ok_weaker}
 use Rattle.dsm_fields.proofs.Writing.{fields_first}
-use Rattle.dsm_image.specs.Spelling.{version_fields, arrival_fields}
-use Rattle.dsm_image.proofs.Writing.{of_listed}
+use Rattle.dsm_image_parts.specs.Spelling.{version_fields, arrival_fields}
+use Rattle.dsm_image_parts.proofs.Writing.{of_listed}
 use Rattle.dsm_image.proofs.payload.put_made.Goals as goal
 
 pub returns : goal.returns

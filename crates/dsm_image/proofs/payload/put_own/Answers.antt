@@ -3,8 +3,8 @@ use Rattle.std.specs.Prelude.{◌==◌}
 use Rattle.std.proofs.lemmas.Result.{on_ok_weaker}
 use Rattle.dsm_lines.specs.Places.{lines}
 use Rattle.dsm_fields.proofs.Writing.{fields_first}
-use Rattle.dsm_image.specs.Spelling.{cell_fields, marked_fields, own_lock_fields, own_bar_fields}
-use Rattle.dsm_image.proofs.Writing.{of_listed}
+use Rattle.dsm_image_parts.specs.Spelling.{cell_fields, marked_fields, own_lock_fields, own_bar_fields}
+use Rattle.dsm_image_parts.proofs.Writing.{of_listed}
 use Rattle.dsm_image.proofs.payload.put_own.Goals as goal
 
 pub returns : goal.returns

@@ -2,8 +2,8 @@ use Rattle.std.proofs.Common.{true}
 use Rattle.std.proofs.lemmas.Result.{on_ok_weaker}
 use Rattle.dsm_fields.specs.Fields.{number}
 use Rattle.dsm_fields.proofs.Writing.{field_first, fields_first}
-use Rattle.dsm_image.specs.Spelling.{record_fields, pending_fields}
-use Rattle.dsm_image.proofs.Writing.{of_listed}
+use Rattle.dsm_image_parts.specs.Spelling.{record_fields, pending_fields}
+use Rattle.dsm_image_parts.proofs.Writing.{of_listed}
 use Rattle.dsm_image.proofs.payload.put_tail.Goals as goal
 
 pub returns : goal.returns

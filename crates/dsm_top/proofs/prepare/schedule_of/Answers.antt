@@ -1,4 +1,4 @@
-use Rattle.std.proofs.Common.{◌≡◌, ◌∙◌, ap, string_bytes, subst, Ok}
+use Rattle.std.proofs.Common.{◌≡◌, string_bytes, subst, Ok}
 use Rattle.std.proofs.lemmas.Result.{err_from_is_err_and}
 use Rattle.dsm_sched.specs.declared.schedule.Schedule.{Schedule}
 use Rattle.dsm_sched.specs.Built.{built_said}
@@ -23,6 +23,5 @@ returns-clause-schedule g c =
     record {
       text = c.in_ok-text.text.items;
       is_read = c.in_ok-text.ensures.text;
-      is_schedule = subst (λ text. built_said text ≡ Ok (schedule.procs, schedule.entries)) c.as_slice.ensures.value c.in_ok-read_schedule.ensures.said
-          ∙ ap (λ procs. Ok (procs, schedule.entries)) c.in_ok-read_schedule.ensures.procs;
+      is_schedule = subst (λ text. built_said text ≡ Ok (schedule.procs, schedule.entries)) c.as_slice.ensures.value c.in_ok-read_schedule.ensures.said;
     }

@@ -1,24 +1,29 @@
-use Rattle.std.proofs.Common.{◌∙◌, ap, sym, refl, reverse}
+use Rattle.std.proofs.Common.{◌∙◌, ap, refl, reverse}
 use Rattle.dsm_base.specs.declared.setup.Setup.{Setup}
 use Rattle.dsm_sched.specs.ScheduleTexts.{units_of as acts_of}
 use Rattle.dsm_small.specs.Setups.{small_setup}
 use Rattle.dsm_top.specs.Ended.{Left}
 use Rattle.dsm_top.proofs.Runs.{ran_whole, cut_by}
-use Rattle.dsm_top.proofs.Schedules.{all_within}
+use Rattle.dsm_top.proofs.Schedules.{some_procs, all_within}
 use Rattle.dsm_top.proofs.run.run.Goals.{in-Ok-apply_units, in-Err}
 use Rattle.dsm_top.proofs.run.run.Goals as goal
 
+pub start-requires : goal.start-requires
+start-requires g c = some_procs c.args.prepared.schedule
+
 pub apply_units-requires-clause-procs : goal.apply_units-requires-clause-procs
-apply_units-requires-clause-procs g c = ap (λ (s : Setup). s.procs) c.in-Ok.ensures.setup ∙ sym c.requires
+apply_units-requires-clause-procs g c = ap (λ (s : Setup). s.procs) (c.in-Ok.ensures.setup (some_procs c.args.prepared.schedule))
 
 pub returns : goal.returns
 returns g c =
     let program = c.args.prepared.program in
     let schedule = acts_of c.args.prepared.schedule in
     let world = c.apply_units.new.world in
-    let setup = c.apply_units.ensures.same.setup ∙ c.in-Ok.ensures.setup in
+    let procs = c.args.prepared.schedule.procs in
+    let count = some_procs c.args.prepared.schedule in
+    let setup = c.apply_units.ensures.same.setup ∙ c.in-Ok.ensures.setup count in
     let first = c.apply_units.ensures.same.first ∙ c.in-Ok.ensures.first in
-    let units_within = all_within (small_setup program 2 refl) c.args.prepared.schedule (sym c.requires) in
+    let units_within = all_within (small_setup program procs count) c.args.prepared.schedule refl in
     let left : Left = record {
       before = g.K.Sink.sink_holds c.args.out.now;
       after = g.K.Sink.sink_holds c.apply_units.new.out;
@@ -30,8 +35,8 @@ returns g c =
     elim c.match-apply_units.branch [
       | in-Ok-apply_units w ↦
           rw (w.status-is)
-          (ran_whole program schedule c.one_memory.ensures units_within world left setup first c.apply_units.ensures.count c.apply_units.ensures.fits c.into_trace.ensures c.units-units.ensures w.finished.result w.from-status.result w.finished.ensures
+          (ran_whole program procs count schedule c.laws.ensures units_within c.output.ensures world left setup first c.apply_units.ensures.count c.apply_units.ensures.fits c.into_trace.ensures c.units-units.ensures c.own_parts.ensures.own c.own_parts.ensures.labels w.in-Ok-apply_units.ensures.made w.finished.result w.from-status.result w.finished.ensures
           w.from-status.ensures w.in-Ok-apply_units.ensures.all w.in-Ok-apply_units.ensures.wrote)
       | in-Err w ↦ rw (w.status-is, w.from-status-in-Err.ensures)
-          (cut_by program schedule c.one_memory.ensures units_within world left setup first c.apply_units.ensures.count c.apply_units.ensures.fits c.into_trace.ensures c.units-units.ensures w.in-Err.error w.in-Err.ensures.cut w.in-Err.ensures.cause.rose)
+          (cut_by program procs count schedule c.laws.ensures units_within c.output.ensures world left setup first c.apply_units.ensures.count c.apply_units.ensures.fits c.into_trace.ensures c.units-units.ensures w.in-Err.error w.in-Err.ensures.cut w.in-Err.ensures.cause.rose)
     ]

@@ -7,13 +7,10 @@ use Rattle.dsm_top.proofs.tool.perform.Goals as goal
 pub run_picks-requires : goal.run_picks-requires
 run_picks-requires g c = subst IsReady c.in-Plain.is c.requires
 
-pub run-requires : goal.run-requires
-run-requires g c = subst IsReady c.in-Run.is c.requires
-
 pub returns-in-Run : goal.returns-in-Run
 returns-in-Run g c given is =
     let left : Left = record { before = g.K.Sink.sink_holds c.args.out.now; after = g.K.Sink.sink_holds c.run.new.out; faults_before = g.K.Sink.sink_faults c.args.out.now; faults_after = g.K.Sink.sink_faults c.run.new.out; trace = reverse c.run.result.trace; units = c.run.result.units } in
-    ended_run given c.in-Run.prepared left c.run.result.status (subst IsReady c.in-Run.is c.requires) (subst (IsPrepared given.files given.command) c.in-Run.is is) c.run.ensures
+    ended_run given c.in-Run.prepared left c.run.result.status (subst (IsPrepared given.files given.command) c.in-Run.is is) c.run.ensures
 
 pub returns-in-Check : goal.returns-in-Check
 returns-in-Check g c given is =

@@ -49,4 +49,4 @@ returns-clause-sends g c =
     let node = c.index_mut.result.now in
     let read = c.index_mut.ensures.value in
     let is = node_of kind first world p within c.requires.shape c.requires.proc node read in
-    handled_result kind (setup_of world) p c.requires.proc node is c.args.msg c.receive.result c.receive.ensures.effects c.receive.ensures.within
+    handled_result kind (setup_of world) p c.requires.proc node is c.args.msg c.receive.result c.requires.msg.names c.receive.ensures.effects c.receive.ensures.within

@@ -30,14 +30,14 @@ returns-clause-shape g c =
     let from = c.args.msg.from.0 in
     let to = c.args.msg.to.0 in
     let letter : Letter = record { number = c.in_ok-number.number; msg = c.args.msg } in
-    let P = λ (letter : Letter). IsReceivable (setup_of old) letter.msg in
+    let P = λ (q : ℕ) (letter : Letter). IsReceivable (setup_of old) q letter.msg in
     record {
       count = shape.count;
       nodes = shape.nodes;
       channels = c.send.ensures.procs ∙ shape.channels;
-      letters = λ p q. subst (λ (family : ℕ → ℕ → List Letter). All P (family p q)) (sym c.in_ok-send.ensures.letters)
-          (updated (All P) (under_way old.channels) from to (under_way old.channels from to ++ letter ∷ []) shape.letters
-          (All-append P (under_way old.channels from to) (letter ∷ []) (shape.letters from to)
-          (All-cons P letter [] (record { from = c.requires.msg.from; names = c.requires.msg.names }) (All-nil P))) p q);
+      letters = λ p q. subst (λ (family : ℕ → ℕ → List Letter). All (P q) (family p q)) (sym c.in_ok-send.ensures.letters)
+          (updated (λ r. All (P r)) (under_way old.channels) from to (under_way old.channels from to ++ letter ∷ []) shape.letters
+          (All-append (P to) (under_way old.channels from to) (letter ∷ []) (shape.letters from to)
+          (All-cons (P to) letter [] (record { from = c.requires.msg.from; names = c.requires.msg.names; kept = c.requires.msg.kept }) (All-nil (P to)))) p q);
       out = shape.out;
     }

@@ -12,7 +12,7 @@ returns-clause-named g c =
     let old = c.args.self.now in
     let from = c.args.from.0 in
     let to = c.args.to.0 in
-    taken_out (λ letter. IsReceivable (setup_of old) letter.msg) (under_way old.channels from to) (under_way c.deliver.new.self from to)
+    taken_out (λ letter. IsReceivable (setup_of old) to letter.msg) (under_way old.channels from to) (under_way c.deliver.new.self from to)
     c.deliver.result c.deliver.ensures.letter (c.requires.shape.letters from to)
 
 pub returns-clause-net : goal.returns-clause-net
@@ -30,8 +30,8 @@ returns-clause-shape g c =
     let from = c.args.from.0 in
     let to = c.args.to.0 in
     let shape = c.requires.shape in
-    let P = λ (letter : Letter). IsReceivable (setup_of old) letter.msg in
-    let left = left_over P (under_way old.channels from to) (under_way c.deliver.new.self from to) c.deliver.result c.deliver.ensures.letter
+    let P = λ (q : ℕ) (letter : Letter). IsReceivable (setup_of old) q letter.msg in
+    let left = left_over (P to) (under_way old.channels from to) (under_way c.deliver.new.self from to) c.deliver.result c.deliver.ensures.letter
     (none_taken c.deliver.result (λ same. ap (λ channels. under_way channels from to) same) c.deliver.ensures.none)
     (on_err_weaker c.deliver.result (λ same. ap (λ channels. under_way channels from to) same) c.deliver.ensures.err)
     (shape.letters from to) in
@@ -39,7 +39,7 @@ returns-clause-shape g c =
       count = shape.count;
       nodes = shape.nodes;
       channels = c.deliver.ensures.procs ∙ shape.channels;
-      letters = λ p q. subst (λ (family : ℕ → ℕ → List Letter). All P (family p q)) (sym c.deliver.ensures.others)
-          (updated (All P) (under_way old.channels) from to (under_way c.deliver.new.self from to) shape.letters left p q);
+      letters = λ p q. subst (λ (family : ℕ → ℕ → List Letter). All (P q) (family p q)) (sym c.deliver.ensures.others)
+          (updated (λ r. All (P r)) (under_way old.channels) from to (under_way c.deliver.new.self from to) shape.letters left p q);
       out = shape.out;
     }

@@ -13,4 +13,8 @@ returns-clause-shape g c =
       locks = c.requires.shape.locks;
       lines = c.requires.shape.lines;
       peers = c.requires.shape.peers;
+      manager = c.requires.shape.manager;
+      procs = c.requires.shape.procs;
+      bars = c.requires.shape.bars;
+      arrivals = c.requires.shape.arrivals;
     }

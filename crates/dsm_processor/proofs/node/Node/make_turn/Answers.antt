@@ -17,7 +17,7 @@ returns-clause-body g c =
     let setup = setup_of old in
     let own = own_of g.T.Task.kind old in
     c.in_ok-body.ensures
-    ∙ ap (body_with own.versions own.held c.args.label.now) (c.in_ok-given.ensures.given ∙ ap (λ pieces. given_lines pieces own.dirty own.copy c.args.label.now) c.requires.whole.shape.copy)
+    ∙ ap (body_with own.versions own.held own.crossed c.args.label.now) (c.in_ok-given.ensures.given ∙ ap (λ pieces. given_lines pieces own.dirty own.copy c.args.label.now) c.requires.whole.shape.copy)
     ∙ body_is setup own c.args.label.now
 
 pub returns-clause-processor : goal.returns-clause-processor

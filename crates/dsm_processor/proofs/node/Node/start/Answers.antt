@@ -1,6 +1,7 @@
-use Rattle.std.proofs.Common.{[], None, rules, false}
+use Rattle.std.proofs.Common.{ℕ, ◌≤◌, sym, subst, arith, [], None, rules, false}
 use Rattle.dsm_home.specs.Homes.{home_state}
 use Rattle.dsm_net.specs.Processor.{live}
+use Rattle.dsm_processor.specs.Peers.{peers_of}
 use Rattle.dsm_processor.proofs.Start.{nobody_waits}
 use Rattle.dsm_processor.proofs.node.Node.start.Goals as goal
 
@@ -17,10 +18,10 @@ returns-clause-processor g c = λ i. record {
     crossed = c.in_ok-rights.ensures.crossed i;
     ending = None;
   };
-  mail = record { grants = c.new-mail.ensures i; openings = [] };
+  mail = c.new-mail.ensures i;
   locks = (c.in_ok-home.ensures.state i).locks;
   lines = record { stamps = (c.in_ok-home.ensures.state i).stamps; values = (c.in_ok-home.ensures.state i).values };
-  barriers = λ bar q. record { count = 0; brought = [] };
+  barriers = c.in_ok-manager.ensures.barriers i;
   peers = c.in_ok-peers.ensures.peers i;
   tail = record { known = 0; records = []; lines = []; noted = false };
   logs = record { versions = []; arrivals = []; grants = λ q. []; openings = λ q. []; records = λ q. [] };
@@ -39,6 +40,10 @@ returns-clause-whole g c =
         locks = search rules;
         lines = search rules;
         peers = search rules;
+        manager = search rules;
+        procs = search rules;
+        bars = search rules;
+        arrivals = λ p. subst (λ (last : ℕ → ℕ). last p ≤ (peers_of c.in_ok-peers.peers p).last) (sym c.in_ok-manager.ensures.last) (omega arith);
       };
       stays = c.requires.stays;
       waiting = nobody_waits c.args.setup.value (home_state c.in_ok-home.home) c.in_ok-home.ensures.state;

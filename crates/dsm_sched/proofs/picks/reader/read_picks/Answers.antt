@@ -8,7 +8,7 @@ use Rattle.dsm_sched.proofs.picks.reader.read_picks.Goals as goal
 pub count-count-requires : goal.count-count-requires
 count-count-requires c =
     let rest = rows_left c.read_heading.new.rows in
-    let fewer : length rest ≤ length (rows_left c.new-rows.result) = fewer_rows (rows_left c.new-rows.result) rest c.in_ok-heading.heading.procs c.in_ok-heading.ensures.said in
+    let fewer : length rest ≤ length (rows_left c.new-rows.result) = fewer_rows (rows_left c.new-rows.result) rest c.in_ok-procs.procs c.in_ok-procs.ensures.said in
     let few : length c.in_ok-entries.entries ≤ length c.args.bytes.now + 1 =
     omega (arith, c.in_ok-entries.ensures.few, fewer, ap length c.new-rows.ensures, few_rows 1 c.args.bytes.now) in
-    rw c.as_slice.ensures (fits c.in_ok-heading.heading.procs (length c.args.bytes.now) c.in_ok-entries.entries c.in_ok-heading.ensures.count few c.in_ok-test_length.ensures c.in_ok-entries.ensures.kept)
+    rw c.as_slice.ensures (fits c.in_ok-procs.procs (length c.args.bytes.now) c.in_ok-entries.entries c.in_ok-procs.ensures.count few c.in_ok-test_length.ensures c.in_ok-entries.ensures.kept)

@@ -1,4 +1,0 @@
-pub mod Bound
-pub mod Steps
-pub mod Copies
-mod Example

@@ -1,6 +1,0 @@
-use Rattle.std.proofs.Common.{nat_lt, rules}
-use Rattle.std.proofs.lemmas.Fn.{filter_same}
-use Rattle.dsm_node.proofs.mailbox.keep_later.Goals as goal
-
-pub returns : goal.returns
-returns c = filter_same _ (λ grant. nat_lt c.args.turn grant.turn) _ (λ grant b q h. search rules) _ _ c.retain.ensures.filtered

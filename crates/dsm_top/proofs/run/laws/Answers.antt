@@ -1,0 +1,17 @@
+use Rattle.dsm_small.specs.Meaning.{small_first}
+use Rattle.dsm_top.proofs.run.laws.Goals as goal
+
+pub returns : goal.returns
+returns c = λ program setup acts trace fits within.
+    let first = small_first program setup.procs in
+    let ask_first = c.made_threads.ensures record { program = program } setup in
+    record {
+      one_memory = c.one_memory.ensures setup first acts trace ask_first fits within;
+      own_parts = c.own_parts.ensures.own setup first acts trace fits;
+      newer_lines = c.newer_lines.ensures setup first acts trace ask_first fits within;
+      granted = c.takes_are_granted.ensures setup first acts trace fits;
+      handled = c.desks.ensures setup first acts trace ask_first fits within;
+      in_order = c.desks_in_order.ensures setup first acts trace fits;
+      together = c.processors_hold_together.ensures setup first acts trace ask_first fits within;
+      not_in_vain = c.nobody_waits_in_vain.ensures setup first acts trace fits;
+    }

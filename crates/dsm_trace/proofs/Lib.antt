@@ -1,4 +1,0 @@
-pub mod Numbered
-pub mod Units
-pub mod Deeds
-pub mod Example

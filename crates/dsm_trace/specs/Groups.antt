@@ -1,8 +1,0 @@
--- Groups of records.
-use Rattle.std.specs.Prelude.{◌≢◌, List, []}
-use Rattle.std.specs.List.{All}
-use Rattle.dsm_trace.specs.declared.trace.Group.{Group}
-
--- no group is empty
-abbrev pub AreSome : List Group → Type 0
-AreSome groups = All (λ group. group.records ≢ []) groups

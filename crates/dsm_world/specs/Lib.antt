@@ -1,4 +1,0 @@
-pub mod Channels
-pub mod Lines
-pub mod Nodes
-pub mod World
