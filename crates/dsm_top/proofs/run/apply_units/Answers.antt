@@ -42,8 +42,8 @@ returns-in_err-lines-clause-fits g c =
 pub returns-clause-fits : goal.returns-clause-fits
 returns-clause-fits g c = made_fits c.acts.world (acts_of c.args.schedule.now) c.acts.invariant.made
 
-pub init-acts : goal.init-acts
-init-acts g c = record {
+pub acts-init : goal.acts-init
+acts-init g c = record {
   whole = c.requires.whole;
   same = record { setup = refl; first = refl };
   within = omega (arith, c.requires.none.units);
