@@ -1,5 +1,5 @@
 -- What waits at a barrier are lists of lines, and so is what its openings bring.
-use Rattle.std.proofs.Common.{◌≡◌, ◌+◌, ◌≤◌, ℕ, zero, suc, Bool, true, ◌&&◌, List, [], ◌∷◌, ◌++◌, get_or, map, refl, sym, ◌∙◌, subst, inl, inr, arith}
+use Rattle.std.proofs.Common.{◌≡◌, ◌+◌, ℕ, zero, suc, Bool, true, ◌&&◌, List, [], ◌∷◌, ◌++◌, get_or, map, refl, sym, ◌∙◌, subst, inl, inr, arith}
 use Rattle.std.specs.Prelude.{nat_le}
 use Rattle.std.specs.List.{All, list_all, flat_map, range_with_len}
 use Rattle.std.proofs.lemmas.Bool.Decides.{eqb_tells}
@@ -48,10 +48,10 @@ pub of_arrival : (barriers : ℕ → BarrierState) (bar from turn : ℕ) (lines 
 of_arrival barriers bar from turn lines waits are =
     subst AllHaveLines (sym (update_same barriers bar (with_arrival (barriers bar) from (arrived_in turn lines))))
     (λ p.
-        elim (eqb_tells p from) as (λ _. All HasLines (update (barriers bar).waiting from ((barriers bar).waiting from ++ arrived_in turn lines ∷ []) p)) [
-          | inl (same, _) ↦ rw same (All-append HasLines ((barriers bar).waiting from) (arrived_in turn lines ∷ []) (waits from) (All-cons HasLines (arrived_in turn lines) [] are (All-nil HasLines)))
-          | inr (differs, _) ↦ rw differs (waits p)
-        ])
+    elim (eqb_tells p from) as (λ _. All HasLines (update (barriers bar).waiting from ((barriers bar).waiting from ++ arrived_in turn lines ∷ []) p)) [
+      | inl (same, _) ↦ rw same (All-append HasLines ((barriers bar).waiting from) (arrived_in turn lines ∷ []) (waits from) (All-cons HasLines (arrived_in turn lines) [] are (All-nil HasLines)))
+      | inr (differs, _) ↦ rw differs (waits p)
+    ])
 
 -- Openings.
 
