@@ -48,7 +48,7 @@ acts-init g c = record {
   same = record { setup = refl; first = refl };
   within = omega (arith, c.requires.none.units);
   made = record { done = []; acts = ap (λ n. reverse (take n (acts_of c.args.schedule.now))) c.requires.none.units; run = c.requires.none };
-  wrote = appended-nil (g.K.Sink.sink_holds c.args.out.now) ∙ ap (λ groups. appended (g.K.Sink.sink_holds c.args.out.now) (output_of groups)) (sym c.requires.no_trace);
+  wrote = sym (appended-nil (g.K.Sink.sink_holds c.args.out.now)) ∙ ap (λ groups. appended (g.K.Sink.sink_holds c.args.out.now) (output_of groups)) (sym c.requires.no_trace);
   later = omega arith;
 }
 
