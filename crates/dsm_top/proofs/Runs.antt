@@ -1,5 +1,5 @@
 -- What a run leaves.
-use Rattle.std.specs.Prelude.{◌≡◌, ◌≤◌, ℕ, Bool, true, false, if◌then◌else◌, List, [], ◌∷◌, length, take, reverse, Option, Result, Ok, Err, IfOk, IsTrue}
+use Rattle.std.specs.Prelude.{◌≡◌, ◌≤◌, ℕ, List, [], length, take, reverse, Option, Result, Ok, Err, IfOk, IsTrue}
 use Rattle.std.proofs.Common.{refl, sym, ap, ◌∙◌, arith, subst}
 use Rattle.dsm_base.specs.Causes.{Rose, IfFailed}
 use Rattle.dsm_base.specs.declared.errors.ReadErr.{ReadErr}

@@ -1,6 +1,6 @@
 -- Each text is one program that the rules accept, or is refused for one reason.
 use Rattle.std.specs.Prelude.{◌≡◌, ◌⊎◌, ℕ, List, Result, Ok, Err}
-use Rattle.std.proofs.Common.{refl, sym, ap, ◌∙◌, subst, inl, inr}
+use Rattle.std.proofs.Common.{refl, sym, ap, ◌∙◌, inl, inr}
 use Rattle.dsm_syntax.specs.declared.errors.ProgErr.{ProgErr}
 use Rattle.dsm_syntax.specs.Tree.{Item}
 use Rattle.dsm_laws_grammar.specs.TextPrograms.{IsProgramText, IsNoProgram, no_tokens, no_tree}

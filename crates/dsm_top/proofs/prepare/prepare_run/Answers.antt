@@ -1,7 +1,7 @@
 use Rattle.std.proofs.Common.{string_bytes, subst, sym, ◌∙◌}
 use Rattle.std.proofs.lemmas.Result.{err_from_is_err_and}
 use Rattle.dsm_check.specs.CheckedViews.{program_of}
-use Rattle.dsm_top.specs.Accepted.{HasChecked, HasFitting, HasSchedule, IsProgram, IsProgramText}
+use Rattle.dsm_top.specs.Accepted.{HasChecked, HasSchedule, IsProgram, IsProgramText}
 use Rattle.dsm_top.proofs.Parts.{run_program, run_schedule, run_owner, run_form, later_part}
 use Rattle.dsm_top.proofs.Programs.{refuses_form}
 use Rattle.dsm_top.proofs.prepare.prepare_run.Goals as goal
