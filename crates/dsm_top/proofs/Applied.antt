@@ -6,7 +6,7 @@ use Rattle.std.proofs.lemmas.Grind.{common_steps}
 use Rattle.dsm_base.specs.declared.act.Act.{Act}
 use Rattle.dsm_base.specs.declared.errors.ReadErr.{ReadErr}
 use Rattle.dsm_base.specs.Sink.{appended, TakesPart}
-use Rattle.dsm_net.specs.Fits.{with_unit, Done, acts_of, FitsUnits}
+use Rattle.dsm_net.specs.Fits.{with_unit, Done, FitsUnits}
 use Rattle.dsm_net.specs.Units.{went}
 use Rattle.dsm_records.specs.Outputs.{lines_of}
 use Rattle.dsm_small.specs.Meaning.{small_semantics}

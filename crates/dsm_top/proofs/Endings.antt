@@ -1,5 +1,5 @@
 -- All processors are up, and each thread came to be over as its turns tell.
-use Rattle.std.specs.Prelude.{◌≡◌, ℕ, Bool, true, false, ◌==◌, List, [], ◌∷◌, Option, Some, None}
+use Rattle.std.specs.Prelude.{◌≡◌, ℕ, List, [], ◌∷◌, Option, Some, None}
 use Rattle.std.proofs.Common.{refl, sym, ap, ◌∙◌, inl, inr}
 use Rattle.std.proofs.lemmas.Bool.Decides.{eqb_tells}
 use Rattle.dsm_base.specs.declared.act.Act.{Act}
@@ -7,6 +7,7 @@ use Rattle.dsm_base.specs.declared.label.Ending.{Ending}
 use Rattle.dsm_base.specs.declared.label.Label.{Label}
 use Rattle.dsm_base.specs.declared.setup.Setup.{Setup}
 use Rattle.dsm_base.specs.Endings.{ending_after, endings_of}
+use Rattle.dsm_base.specs.Family.{update_at}
 use Rattle.dsm_base.specs.Plain.{Turn, labels_of}
 use Rattle.dsm_base.specs.Threads.{Semantics}
 use Rattle.dsm_net.specs.declared.trace.Group.{Group}
@@ -53,7 +54,8 @@ module _ {S : Type 0} (setup : Setup) (first : ℕ → S) (threads : Semantics S
   delivery_up : (net : Net S) (from to : ℕ) (letters : List Letter) (receiver : Option (Processor S)) → AllUp net → AllUp (delivery_of setup net from to letters receiver).net
   delivery_up net from to [] receiver up = up
   delivery_up net from to (letter ∷ others) None up = up
-  delivery_up net from to (letter ∷ others) (Some s) up = effect_up _ from to (effect_of_message setup to s letter.msg) up
+  delivery_up net from to (letter ∷ others) (Some s) up =
+      effect_up record { net = record net { channels = update_at net.channels from to others }; records = Rec.Delivered letter.number ∷ [] } from to (effect_of_message setup to s letter.msg) up
 
   unit_up : (net : Net S) (act : Act) (outcome : Outcome) → AllUp net → AllUp (unit_of setup threads net act outcome).net
   unit_up net (Act.Step p) outcome up = step_up net p.0 (net.processors p.0) up
@@ -66,7 +68,7 @@ module _ {S : Type 0} (setup : Setup) (first : ℕ → S) (threads : Semantics S
 
   run_up : (done : List Done) → AllUp (run_of setup first threads done).net
   run_up [] p = record { processor = _; is = refl }
-  run_up (one ∷ before) = unit_up (run_of setup first threads before).net one.act one.outcome (run_up before)
+  run_up (one ∷ before) p = unit_up (run_of setup first threads before).net one.act one.outcome (run_up before) p
 
   -- the labels of a processor's own turns tell how its thread came to be over
   abbrev over_by : List Label → Option Ending

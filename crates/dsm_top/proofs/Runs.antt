@@ -1,5 +1,5 @@
 -- What a run leaves.
-use Rattle.std.specs.Prelude.{◌≡◌, ◌≤◌, ℕ, Bool, true, false, if◌then◌else◌, List, [], ◌∷◌, length, take, reverse, Option, Result, Ok, Err, IfOk, IsTrue}
+use Rattle.std.specs.Prelude.{◌≡◌, ◌≤◌, ℕ, List, [], length, take, reverse, Option, Result, Ok, Err, IfOk, IsTrue}
 use Rattle.std.proofs.Common.{refl, sym, ap, ◌∙◌, arith, subst}
 use Rattle.dsm_base.specs.Causes.{Rose, IfFailed}
 use Rattle.dsm_base.specs.declared.errors.ReadErr.{ReadErr}
@@ -30,7 +30,6 @@ use Rattle.dsm_top.specs.Ended.{Left, TakesFront, IsRun, Ran}
 use Rattle.dsm_top.specs.Runs.{SmallWorld, first_by, small_kind, first_in, IsMadeBy, FitsFirst, WroteCut}
 use Rattle.dsm_top.specs.Statuses.{status_of_finished, status_of_write}
 use Rattle.dsm_top.proofs.Pieces.{appended-nil}
-use Rattle.dsm_top.proofs.Applied.{made_fits}
 use Rattle.dsm_top.proofs.Endings.{endings_are}
 use Rattle.dsm_top.proofs.Units.{all_front}
 use Rattle.dsm_top.proofs.Went.{went_through}
@@ -55,7 +54,7 @@ OwnLabels = (trace : List Group) (p : ℕ) → labels_of_turns (own_turns_of p t
 world_endings : (own : OwnParts) (labels : OwnLabels) (schedule : List Act) (world : SmallWorld) → IsMadeBy schedule world → (p : ℕ) →
     ending_at ((net_of small_kind first_by world).processors p) ≡ endings_of (history (groups_of world)) p
 world_endings own labels schedule world made p =
-    let fits = made_fits world schedule made in
+    let fits : FitsFirst world schedule = record { done = made.done; same_acts = made.acts; is_trace = ap (λ ran. ran.groups) made.run.ran } in
     ap (λ ran. ending_at (ran.net.processors p)) (sym made.run.ran)
     ∙ endings_are (setup_of world) (first_in world) small_semantics (reverse (take (units_of world) schedule)) (groups_of world) fits
     (own (setup_of world) (first_in world) (reverse (take (units_of world) schedule)) (groups_of world) fits) (labels (groups_of world)) p

@@ -1,6 +1,6 @@
 -- Each text is one program that the rules accept, or is refused for one reason.
 use Rattle.std.specs.Prelude.{◌≡◌, ◌⊎◌, ℕ, List, Result, Ok, Err}
-use Rattle.std.proofs.Common.{refl, sym, ap, ◌∙◌, subst, inl, inr}
+use Rattle.std.proofs.Common.{refl, sym, ap, ◌∙◌, inl, inr}
 use Rattle.dsm_syntax.specs.declared.errors.ProgErr.{ProgErr}
 use Rattle.dsm_syntax.specs.Tree.{Item}
 use Rattle.dsm_laws_grammar.specs.TextPrograms.{IsProgramText, IsNoProgram, no_tokens, no_tree}
@@ -47,7 +47,7 @@ module _ (not_both : (text : List ℕ) (items : List Item) (e : ProgErr) → IsP
   apart text program e is refused = by (why refused)
     where
       by : IsNoProgram text e ⊎ IsRuledOut text e → ⊥
-      by (inl no) = not_both text is.items e (program_text is) no
+      by (inl refusal) = not_both text is.items e (program_text is) refusal
       by (inr out) =
           let same : Ok program ≡ Err e = sym is.is_checked ∙ (ap checked (one text is.items out.items (program_text is) out.is_program) ∙ out.is_refused) in
           cc
@@ -64,9 +64,9 @@ module _ (not_both : (text : List ℕ) (items : List Item) (e : ProgErr) → IsP
   one_refusal grammars text e f refused also = by (why refused) (why also)
     where
       by : IsNoProgram text e ⊎ IsRuledOut text e → IsNoProgram text f ⊎ IsRuledOut text f → e ≡ f
-      by (inl no) (inl other) = grammars text e f no other
-      by (inl no) (inr out) = absurd (not_both text out.items e out.is_program no)
-      by (inr out) (inl no) = absurd (not_both text out.items f out.is_program no)
+      by (inl refusal) (inl other) = grammars text e f refusal other
+      by (inl refusal) (inr out) = absurd (not_both text out.items e out.is_program refusal)
+      by (inr out) (inl refusal) = absurd (not_both text out.items f out.is_program refusal)
       by (inr out) (inr other) =
           let same : Err e ≡ Err f = sym out.is_refused ∙ (ap checked (one text out.items other.items out.is_program other.is_program) ∙ other.is_refused) in
           cc

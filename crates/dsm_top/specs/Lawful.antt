@@ -8,23 +8,29 @@ use Rattle.dsm_net.specs.Story.{history}
 use Rattle.dsm_laws_protocol.specs.Holding.{HoldTogether}
 use Rattle.dsm_laws_protocol.specs.OwnParts.{HasOwnParts}
 use Rattle.dsm_laws_protocol.specs.Waiting.{NobodyWaitsInVain}
+use Rattle.dsm_laws_history.specs.BarrierLines.{HasBarrierLines}
 use Rattle.dsm_laws_history.specs.Desks.{AllHaveHandled}
 use Rattle.dsm_laws_history.specs.Granted.{AllTakesAreGranted}
 use Rattle.dsm_laws_history.specs.NewerLines.{HasNewerLines}
 use Rattle.dsm_laws_history.specs.OneMemory.{IsOneMemory}
+use Rattle.dsm_laws_history.specs.Openings.{OpenWhenAllCame, OpeningsAreInPlace}
 use Rattle.dsm_laws_history.specs.Order.{AllWaitInOrder}
 
 -- what holds of a trace and of what the world holds after it: the turns are a run over one memory, with
 -- which each processor agrees; what is a processor's own is what its turns left; takes bring the newer
--- lines and no others, by grants that were delivered; homes know what each processor has done up to a
--- turn of it, and who waits there waits in the order of the requests; a lock is held by one, or shared;
--- and nobody waits for a lock that could be granted
+-- lines and no others, by grants that were delivered; crossings bring the lines of the others'
+-- arrivals and no others, and barriers open just when all have come, with each opening in its place;
+-- homes know what each processor has done up to a turn of it, and who waits there waits in the order of
+-- the requests; a lock is held by one, or shared; and nobody waits for a lock that could be granted
 pub record IsLawful {S : Type 0} (setup : Setup) (first : ℕ → S) (threads : Semantics S) (net : Net S)
     (trace : List Group) : Type 0 where
   pub one_memory : IsOneMemory setup first threads trace
   pub own_parts : HasOwnParts setup first threads net trace
   pub newer_lines : HasNewerLines setup first threads net trace
   pub granted : AllTakesAreGranted setup trace
+  pub barrier_lines : HasBarrierLines setup first threads net trace
+  pub opens : OpenWhenAllCame setup (history trace) net
+  pub openings : OpeningsAreInPlace setup (history trace) net
   pub handled : AllHaveHandled setup (history trace) net
   pub in_order : AllWaitInOrder setup trace net
   pub together : HoldTogether net

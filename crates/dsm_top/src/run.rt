@@ -24,7 +24,8 @@ use crate::prepare::SmallRun;
 use crate::status::{Report, Status};
 use dsm_base::{MemFault, ReadErr, Sink};
 use dsm_laws_history::{
-    desks, desks_in_order, made_threads, newer_lines, one_memory, output, takes_are_granted,
+    barrier_lines, desks, desks_in_order, made_threads, newer_lines, one_memory,
+    openings_are_in_place, opens_when_all_came, output, takes_are_granted,
 };
 use dsm_laws_protocol::{nobody_waits_in_vain, own_parts, processors_hold_together};
 use dsm_network::World;
@@ -91,6 +92,9 @@ fn laws()
     own_parts::<SmallThread>();
     newer_lines::<SmallThread>();
     takes_are_granted::<SmallThread>();
+    barrier_lines::<SmallThread>();
+    opens_when_all_came::<SmallThread>();
+    openings_are_in_place::<SmallThread>();
     desks::<SmallThread>();
     desks_in_order::<SmallThread>();
     processors_hold_together::<SmallThread>();

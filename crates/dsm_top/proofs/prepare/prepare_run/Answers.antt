@@ -1,7 +1,7 @@
 use Rattle.std.proofs.Common.{string_bytes, subst, sym, ◌∙◌}
 use Rattle.std.proofs.lemmas.Result.{err_from_is_err_and}
 use Rattle.dsm_check.specs.CheckedViews.{program_of}
-use Rattle.dsm_top.specs.Accepted.{HasChecked, HasFitting, HasSchedule, IsProgram, IsProgramText}
+use Rattle.dsm_top.specs.Accepted.{HasChecked, HasSchedule, IsProgram, IsProgramText}
 use Rattle.dsm_top.proofs.Parts.{run_program, run_schedule, run_owner, run_form, later_part}
 use Rattle.dsm_top.proofs.Programs.{refuses_form}
 use Rattle.dsm_top.proofs.prepare.prepare_run.Goals as goal
@@ -32,9 +32,9 @@ returns-in_err-test_owners-clause-refused g c =
     (subst (λ files. HasChecked files (string_bytes c.args.program.now) found) (sym part.same) has)
     (subst (λ files. HasSchedule files (string_bytes c.args.schedule.now) schedule.procs schedule.entries) (c.checked_of.ensures.keeps.same ∙ sym part.same) c.in_ok-schedule.ensures.schedule) c.in_err-test_owners.ensures)
 
-pub returns-in_err-read_program-clause-refused : goal.returns-in_err-read_program-clause-refused
-returns-in_err-read_program-clause-refused g c =
-    let p = err_from_is_err_and c.from_residual-in_err-read_program.result c.from_residual-in_err-read_program.ensures.1 in
+pub returns-in_err-program-clause-refused : goal.returns-in_err-program-clause-refused
+returns-in_err-program-clause-refused g c =
+    let p = err_from_is_err_and c.from_residual-in_err-program.result c.from_residual-in_err-program.ensures.1 in
     let found = program_of c.in_ok-found.found.program in
     let schedule = c.in_ok-schedule.schedule in
     rw (p.1, p.2) (λ given part.
@@ -48,7 +48,7 @@ returns-in_err-read_program-clause-refused g c =
       fits = c.in_ok-test_owners.ensures;
     }
     (subst (λ files. HasSchedule files (string_bytes c.args.schedule.now) schedule.procs schedule.entries) (c.checked_of.ensures.keeps.same ∙ sym part.same) c.in_ok-schedule.ensures.schedule)
-    (refuses_form c.as_slice.result.now c.in_ok-found.found.text.items c.as_slice.ensures.value c.in_err-read_program.field-0.0 c.in_err-read_program.ensures))
+    (refuses_form c.as_slice.result.now c.in_ok-found.found.text.items c.as_slice.ensures.value c.in_err-program.field-0.0 c.in_err-program.ensures))
 
 pub returns-clause-accepted : goal.returns-clause-accepted
 returns-clause-accepted g c =

@@ -42,13 +42,13 @@ returns-in_err-lines-clause-fits g c =
 pub returns-clause-fits : goal.returns-clause-fits
 returns-clause-fits g c = made_fits c.acts.world (acts_of c.args.schedule.now) c.acts.invariant.made
 
-pub init-acts : goal.init-acts
-init-acts g c = record {
+pub acts-init : goal.acts-init
+acts-init g c = record {
   whole = c.requires.whole;
   same = record { setup = refl; first = refl };
   within = omega (arith, c.requires.none.units);
   made = record { done = []; acts = ap (λ n. reverse (take n (acts_of c.args.schedule.now))) c.requires.none.units; run = c.requires.none };
-  wrote = appended-nil (g.K.Sink.sink_holds c.args.out.now) ∙ ap (λ groups. appended (g.K.Sink.sink_holds c.args.out.now) (output_of groups)) (sym c.requires.no_trace);
+  wrote = sym (appended-nil (g.K.Sink.sink_holds c.args.out.now)) ∙ ap (λ groups. appended (g.K.Sink.sink_holds c.args.out.now) (output_of groups)) (sym c.requires.no_trace);
   later = omega arith;
 }
 

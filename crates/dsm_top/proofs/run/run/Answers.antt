@@ -3,7 +3,7 @@ use Rattle.dsm_base.specs.declared.setup.Setup.{Setup}
 use Rattle.dsm_sched.specs.ScheduleTexts.{units_of as acts_of}
 use Rattle.dsm_small.specs.Setups.{small_setup}
 use Rattle.dsm_top.specs.Ended.{Left}
-use Rattle.dsm_top.proofs.Runs.{ran_whole, cut_by}
+use Rattle.dsm_top.proofs.Runs.{ran_none, ran_whole, cut_by}
 use Rattle.dsm_top.proofs.Schedules.{some_procs, all_within}
 use Rattle.dsm_top.proofs.run.run.Goals.{in-Ok-apply_units, in-Err}
 use Rattle.dsm_top.proofs.run.run.Goals as goal
@@ -40,3 +40,12 @@ returns g c =
       | in-Err w ↦ rw (w.status-is, w.from-status-in-Err.ensures)
           (cut_by program procs count schedule c.laws.ensures units_within c.output.ensures world left setup first c.apply_units.ensures.count c.apply_units.ensures.fits c.into_trace.ensures c.units-units.ensures w.in-Err.error w.in-Err.ensures.cut w.in-Err.ensures.cause.rose)
     ]
+
+pub returns-in_default : goal.returns-in_default
+returns-in_default g c =
+    let program = c.args.prepared.program in
+    let schedule = c.args.prepared.schedule in
+    let count = some_procs schedule in
+    let units_within = all_within (small_setup program schedule.procs count) schedule refl in
+    rw (c.untraced.ensures)
+    (ran_none program schedule.procs count (acts_of schedule) c.laws.ensures units_within (g.K.Sink.sink_holds c.args.out.now) (g.K.Sink.sink_faults c.args.out.now) (g.K.Sink.sink_faults c.args.out.now))

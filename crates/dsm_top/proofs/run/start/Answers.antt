@@ -1,7 +1,5 @@
-use Rattle.std.proofs.Common.{◌≡◌, ap, ◌∙◌, sym, IsTrue, IfOk}
+use Rattle.std.proofs.Common.{ap, ◌∙◌}
 use Rattle.dsm_base.specs.declared.setup.Setup.{Setup}
-use Rattle.dsm_base.specs.Setups.{is_proc_count}
-use Rattle.dsm_small.specs.Setups.{small_setup}
 use Rattle.dsm_top.proofs.Runs.{stays, first_states, same_setup}
 use Rattle.dsm_top.proofs.run.start.Goals as goal
 
