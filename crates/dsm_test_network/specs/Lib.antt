@@ -1,2 +1,4 @@
 pub mod Thread
 pub mod Laws
+pub mod Crossing
+pub mod CrossingLaws

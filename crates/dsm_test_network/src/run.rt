@@ -8,7 +8,7 @@ ghost use Rattle.dsm_test_network.specs.Thread.{thread_kind, first_in};
 ghost use Rattle.dsm_test_network.specs.Laws.{IsRoleIn};
 
 use crate::thread::Threads;
-use dsm_base::{Act, Cell, Lock, MemFault, Object, Piece, PrintedLines, Setup};
+use dsm_base::{Act, Cell, Lock, MemFault, Object, Piece, PrintedLines, Setup, TaskMaker};
 use dsm_network::World;
 use sqlite_items::Items;
 use std::alloc::Global;
@@ -61,7 +61,6 @@ pub fn setup_of_four(alloc: Global) -> Result<Setup, MemFault>
 }
 
 /// The world of such threads.
-#[tactic(auto, using(crate::specs::Laws::stays))]
 pub fn world(alloc: Global, setup: Setup, maker: Threads) -> Result<World<Threads>, MemFault>
     requires locks { 0 < setup.locks }
     requires one { IsRoleIn setup.cells maker.role }
@@ -69,7 +68,8 @@ pub fn world(alloc: Global, setup: Setup, maker: Threads) -> Result<World<Thread
     ensures whole { IfOk result (IsWhole thread_kind first_in) }
     ensures procs { IfOk result (λ world. (setup_of world).procs ≡ setup.procs) }
 {
-    World::new(alloc, Rc::new(alloc, setup)?, maker)
+    let setup = Rc::new(alloc, setup)?;
+    World::new(alloc, setup, maker)
 }
 
 /// Whether a unit is one of so many processors.
@@ -96,15 +96,15 @@ fn append(text: &mut Vec<u8>, lines: &PrintedLines) -> Result<(), MemFault> {
 }
 
 /// The lines of units that are applied one after another.
-pub fn lines_of(
+pub fn lines_of<M: TaskMaker>(
     alloc: Global,
-    world: &mut World<Threads>,
+    world: &mut World<M>,
     procs: u8,
     acts: &[Act],
 ) -> Result<Vec<u8>, MemFault>
-    requires whole { IsWhole thread_kind first_in world.old }
+    requires whole { IsWhole M.Made.kind M.first world.old }
     requires procs { (setup_of world.old).procs ≡ procs }
-    ensures whole { OnOk result (IsWhole thread_kind first_in world.new) }
+    ensures whole { OnOk result (IsWhole M.Made.kind M.first world.new) }
     ensures procs { OnOk result ((setup_of world.new).procs ≡ procs) }
 {
     let mut text = Vec::new(alloc);
