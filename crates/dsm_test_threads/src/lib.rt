@@ -2,4 +2,6 @@
 #![tactic(auto)]
 
 #[cfg(test)]
+mod saved;
+#[cfg(test)]
 mod threads;

@@ -56,7 +56,11 @@ fn function(
 
 /// A program of at most two functions, of which the first is main; it has 4 shared cells, 2 private cells,
 /// 2 locks, and a print of `x=` and a value.
-fn parts(alloc: Global, main: &[(Instr, u32)], other: &[(Instr, u32)]) -> Result<Parts, MemFault> {
+pub fn parts(
+    alloc: Global,
+    main: &[(Instr, u32)],
+    other: &[(Instr, u32)],
+) -> Result<Parts, MemFault> {
     let mut functions = Vec::new(alloc);
     functions.push(function(alloc, 2, 3, main)?)?;
     functions.push(function(alloc, 1, 1, other)?)?;
@@ -120,7 +124,7 @@ fn run(alloc: Global, parts: Parts, cell: i64) -> Result<Option<Ran>, MemFault> 
 }
 
 /// `int f(int k) { return f(k + 1); }` on line 1.
-const ENDLESS: &[(Instr, u32)] = &[
+pub const ENDLESS: &[(Instr, u32)] = &[
     (Instr::LoadSlot(0, Use::Value), 0),
     (Instr::Push(1), 1),
     (Instr::Binary(BinaryOp::Plus, 1), 2),
@@ -129,7 +133,7 @@ const ENDLESS: &[(Instr, u32)] = &[
 ];
 
 /// `int main(int me, int n) { return f(0); }` on line 2.
-const CALLER: &[(Instr, u32)] = &[
+pub const CALLER: &[(Instr, u32)] = &[
     (Instr::Push(0), 0),
     (Instr::Enter(1, 2), 1),
     (Instr::Leave, 1),
@@ -145,7 +149,7 @@ fn calls_are_limited_to_a_depth(rt: HostRuntime) -> Result<(), Fail> {
 }
 
 /// `acquire(L[me]); x[me] = x[me] * 2 + 5; print("x=", x[me]); release(L[me]);` in main.
-const LOCKED: &[(Instr, u32)] = &[
+pub const LOCKED: &[(Instr, u32)] = &[
     (Instr::LoadSlot(0, Use::Value), 0),
     (Instr::Ask(LOCKS, Mode::Excl, 3), 1),
     (Instr::Take(LOCKS, Mode::Excl, 3), 1),

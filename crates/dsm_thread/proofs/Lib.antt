@@ -1,3 +1,3 @@
-pub mod Fits
-pub mod Printing
-pub mod Tops
+pub mod Written
+pub mod Resumed
+pub mod Loaded

@@ -1,5 +1,2 @@
-pub mod Rooms
-pub mod Frames
-pub mod States
-pub mod Standing
-pub mod Prints
+pub mod Saving
+pub mod Resuming

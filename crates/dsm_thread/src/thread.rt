@@ -1,15 +1,18 @@
 //! Threads of code.
 
-ghost use Rattle.std.specs.Prelude.{◌≡◌, IfOk};
+ghost use Rattle.std.specs.Prelude.{◌≡◌, ◌++◌, Result, IfOk, OnOk};
+ghost use Rattle.dsm_base.specs.declared.errors.LoadErr.{LoadErr};
 ghost use Rattle.dsm_base.specs.Threads.{line_of};
 ghost use Rattle.dsm_code.specs.Machine as m;
-ghost use Rattle.dsm_thread.specs.States.{state_in, Becomes, IsFit};
-ghost use Rattle.dsm_thread.specs.Standing.{IsStanding};
+ghost use Rattle.dsm_saved.specs.Answers.{IsSaved, OrMemory, saved_bytes};
+ghost use Rattle.dsm_saved.specs.States.{IsState, IsLoaded, saved_of};
 
-use crate::machine::{Life, Machine};
-use crate::print::Line;
-use dsm_base::{Fault, MemFault, Proc, Task, Want};
-use dsm_code::{Code, Instr, Row, values_in};
+use crate::load::restore;
+use crate::save::save_machine;
+use dsm_base::{Fault, LoadErr, MemFault, Proc, Task, Want};
+use dsm_code::Code;
+use dsm_machine::{Line, Machine, stand, write_line};
+use dsm_saved::read_saved;
 use std::alloc::Global;
 use std::marker::Model;
 use std::rc::Rc;
@@ -27,50 +30,12 @@ impl Model for Thread {
 
     ghost Value = { State };
 
-    ghost use Rattle.dsm_thread.specs.States.{state_in};
-    ghost use Rattle.dsm_thread.specs.Standing.{IsStanding};
+    ghost use Rattle.dsm_machine.specs.States.{state_in};
+    ghost use Rattle.dsm_machine.specs.Standing.{IsStanding};
 
     ghost view = { λ thread. state_in thread.machine };
 
     ghost invariant = { λ thread. IsStanding thread.machine thread.line };
-}
-
-/// Writes the text of the line that an instruction wants, where it wants one.
-fn write_row(machine: &Machine, row: Option<Row>, line: &mut Line)
-    ensures { line.new ≡ m.text_at (state_in machine.now) row }
-{
-    let Some(row) = row else {
-        line.clear();
-        return;
-    };
-    match row.instr {
-        Instr::Print(number) => {
-            let parts = machine.print_parts(number);
-            line.set(parts, machine.frame.operands.topmost(values_in(parts)));
-        }
-        _ => line.clear(),
-    }
-}
-
-/// Writes the text of the line that a machine wants, where it wants one.
-fn write_line(machine: &Machine, line: &mut Line)
-    ensures { line.new ≡ m.text (state_in machine.now) }
-{
-    match machine.life {
-        Life::Going => write_row(machine, machine.row_here(), line),
-        Life::Ended => line.clear(),
-        Life::Stopped(_, _) => line.clear(),
-    }
-}
-
-/// Goes on to the next labelled step.
-fn stand(machine: &mut Machine, line: &mut Line)
-    requires { IsFit machine.old }
-    ensures state { Becomes machine.old machine.new m.ready }
-    ensures stands { IsStanding machine.new line.new }
-{
-    machine.settle();
-    write_line(machine, line);
 }
 
 /// The line at which a thread that wants this may stop; 0 where it may not.
@@ -98,6 +63,39 @@ impl Thread {
         stand(&mut machine, &mut line);
         Ok(Thread { machine, line })
     }
+
+    /// Appends the saved thread. `MemFault` comes out of memory, and where a count or a place is too
+    /// great for its field.
+    pub fn save(&self, out: &mut Vec<u8>) -> Result<(), MemFault>
+        ensures state { IsState self.now.program self.now }
+        ensures saved { OnOk result (IsSaved self.now.program (saved_of self.now)) }
+        ensures bytes { OnOk result (out.new.items ≡
+            out.old.items ++ saved_bytes self.now.program (saved_of self.now)) }
+    {
+        save_machine(&self.machine, out)
+    }
+
+    /// The thread that goes on from its saved bytes, with its whole stack and the text of a line
+    /// reserved, or `BadImage` with the first place at which no saved thread of this code goes on.
+    /// `Memory` also where a place is over 32 bits. The processor and their number are among the slots.
+    pub fn load(
+        alloc: Global,
+        code: Rc<Code>,
+        _me: Proc,
+        _procs: u8,
+        bytes: &[u8],
+    ) -> Result<Thread, LoadErr>
+        ensures fits { OrMemory result (IsLoaded code.value result bytes.now) }
+        ensures only { (other : Result m.State LoadErr) → IsLoaded code.value other bytes.now →
+            OrMemory result (result ≡ other) }
+    {
+        code.as_ref().is_valid();
+        let saved = read_saved(alloc, code.as_ref(), bytes)?;
+        let mut line = Line::new(alloc)?;
+        let machine = restore(alloc, code, &saved)?;
+        write_line(&machine, &mut line);
+        Ok(Thread { machine, line })
+    }
 }
 
 impl Task for Thread {
@@ -119,7 +117,7 @@ impl Task for Thread {
         stand(&mut self.machine, &mut self.line);
     }
 
-    #[tactic(auto, using(crate::proofs::Fits::own_of))]
+    #[tactic(auto, using(dsm_machine::proofs::Fits::own_of))]
     fn stop(&mut self, fault: Fault) {
         let line = line_of(self.machine.wanted());
         self.machine.stop(fault, line);

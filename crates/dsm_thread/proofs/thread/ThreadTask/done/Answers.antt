@@ -1,7 +1,7 @@
 use Rattle.std.proofs.Common.{w64, to_z, of_z}
 use Rattle.std.proofs.lemmas.Int.{to_z-of_z}
-use Rattle.dsm_thread.specs.States.{state_in}
-use Rattle.dsm_thread.proofs.Fits.{done_is}
+use Rattle.dsm_machine.specs.States.{state_in}
+use Rattle.dsm_machine.proofs.Fits.{done_is}
 use Rattle.dsm_thread.proofs.thread.ThreadTask.done.Goals as goal
 
 pub returns : goal.returns
