@@ -3,3 +3,4 @@ pub mod Names
 pub mod Expressions
 pub mod Statements
 pub mod Accepted
+pub mod Depths

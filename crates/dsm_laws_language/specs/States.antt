@@ -1,12 +1,14 @@
 -- Closed states: what remains to be done is closed, and each item finds the operands that it takes.
 use Rattle.std.specs.Prelude.{◌≡◌, ℕ, ◌+◌, nat_lt, nat_le, ℤ, Bool, true, false, ◌&&◌, IsTrue, List, [], ◌∷◌, length, slice_get, Option, Some, None, is_some}
-use Rattle.dsm_base.specs.Steps.{goes}
+use Rattle.dsm_base.specs.Steps.{goes, want_of}
+use Rattle.dsm_base.specs.Threads.{AnswersTo, state_after}
 use Rattle.dsm_base.specs.declared.label.Label.{Label}
 use Rattle.dsm_syntax.specs.declared.tree.Sharing.{Sharing}
 use Rattle.dsm_check.specs.Resolved as r
 use Rattle.dsm_check.specs.Programs.{Program}
 use Rattle.dsm_semantics.specs.States.{Place, slot, cell, member, LockPlace, one_lock, lock_member, Use, for_value, for_change, for_step_behind, Loop, Item, evaluate, evaluate_all, test_index, load, store, unary, step_by, binary, and_then, or_else, to_truth, choose, enter, discard, execute, run, declare, branch, round, decide, third_part, jump_back, leave, ask, take_lock, give, cross, gather, print, Frame, State, top, below}
-use Rattle.dsm_semantics.specs.Semantics.{member_number, numbered, values_in, step, completed}
+use Rattle.dsm_semantics.specs.Semantics.{member_number, numbered, values_in, step, completed, started}
+use Rattle.dsm_semantics.specs.Programs.{threads_of, first_states}
 use Rattle.dsm_laws_language.specs.Closed.{cells_of, is_below, is_callable, count_in, is_closed_option, is_closed_expression, are_closed_arguments, are_closed_variables, are_closed_parts, is_closed_statement, are_closed_statements}
 
 -- How many operands items take and leave.
@@ -70,19 +72,25 @@ gives (or_else e) = 1
 gives to_truth = 1
 gives (choose a b) = 1
 gives (enter number line) = 1
-gives (ask lock mode) = lock_index_count lock
 gives (gather parts) = values_in parts
 gives _ = 0
 
--- an item of statements, below whose operands there are no others
+-- an item of statements; below the operands that it takes there are no others
 abbrev pub is_outermost : Item → Bool
 is_outermost (execute statement) = true
 is_outermost (run statements) = true
+is_outermost (declare variables) = true
 is_outermost (branch body other) = true
 is_outermost (round loop) = true
 is_outermost (decide loop) = true
 is_outermost (third_part loop) = true
 is_outermost (jump_back loop) = true
+is_outermost leave = true
+is_outermost (ask lock mode) = true
+is_outermost (take_lock lock mode) = true
+is_outermost (give lock) = true
+is_outermost (cross bar) = true
+is_outermost (print parts) = true
 is_outermost _ = false
 
 -- What items name.
@@ -209,8 +217,20 @@ finds program s (item ∷ k) = nat_le (takes program item) (length s.operands) &
 abbrev pub finds_all : Program → State → Bool
 finds_all program s = finds program s s.todo
 
--- the states that a thread comes to from a first one, whatever labels come, with those between labelled steps
+-- the states that a thread comes to from a first one by labels that answer what it wants, with those between labelled steps
 pub data IsReached (program : Program) (first : State) : State → Type 0 where
   at_first : IsReached program first first
   by_step : (s t : State) → IsReached program first s → step program.functions s ≡ goes t → IsReached program first t
-  by_label : (s : State) (label : Label) → IsReached program first s → IsReached program first (completed program.functions s label)
+  by_label : (s : State) (label : Label) → IsReached program first s → AnswersTo (want_of (step program.functions s)) label
+      → IsReached program first (completed program.functions s label)
+
+-- a thread of a program before its first step
+abbrev pub started_in : Program → ℕ → ℕ → State
+started_in program procs me = started (numbered (slice_get program.functions program.main)) program.private_cells procs me
+
+-- each label answers what the thread wants behind those before it; the newest comes first
+abbrev pub AllAnswer : Program → ℕ → ℕ → List Label → Type 0
+AllAnswer program procs me [] = Unit {0}
+AllAnswer program procs me (label ∷ before) =
+    AllAnswer program procs me before
+    × AnswersTo ((threads_of program).want (state_after (threads_of program) (first_states program procs me) before)) label
