@@ -4,3 +4,7 @@ pub mod Expressions
 pub mod Statements
 pub mod Accepted
 pub mod Depths
+pub mod Evaluating
+pub mod Executing
+pub mod Steps
+pub mod Reached
