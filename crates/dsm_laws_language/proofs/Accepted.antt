@@ -1,5 +1,5 @@
 -- Accepted programs are closed.
-use Rattle.std.proofs.Common.{◌≡◌, ℕ, ◌≤◌, Bool, true, List, [], Option, Some, Ok, Err, length, refl, sym, subst, arith}
+use Rattle.std.proofs.Common.{◌≡◌, ℕ, true, List, [], Ok, length, refl, arith}
 use Rattle.std.specs.Prelude.{IsTrue}
 use Rattle.std.proofs.lemmas.Bool.{le-leb}
 use Rattle.std.proofs.Math.Logic.{∥∥₁_elim}
@@ -11,7 +11,6 @@ use Rattle.dsm_syntax.specs.Sound.{is_sound_program}
 use Rattle.dsm_check.specs.declared.checked.Checked.{Checked}
 use Rattle.dsm_check.specs.Resolved as r
 use Rattle.dsm_check.specs.Environments.{Entry, meaning, total, cells_in, locks_in, barriers_in, functions_in}
-use Rattle.dsm_check.specs.Checks.{Check}
 use Rattle.dsm_check.specs.Numbers.{is_numbered}
 use Rattle.dsm_check.specs.FileNames.{file_names, main_of, main_name}
 use Rattle.dsm_check.specs.Bindings.{pieces_of}
@@ -23,7 +22,7 @@ use Rattle.dsm_check.proofs.Successes.{then_in}
 use Rattle.dsm_check.proofs.Numberings.{limits}
 use Rattle.dsm_laws_language.specs.Closed.{is_closed, has_limits}
 use Rattle.dsm_laws_language.proofs.Tests.{both, ok_in}
-use Rattle.dsm_laws_language.proofs.Names.{functions_named, AreTotals, file_closed, means_closed, main_closed}
+use Rattle.dsm_laws_language.proofs.Names.{functions_named, file_closed, means_closed, main_closed}
 use Rattle.dsm_laws_language.proofs.Statements.{bodies_closed}
 
 -- the program of a file's parts

@@ -1,13 +1,13 @@
 -- Numbers of operands, and lists of items that find theirs.
-use Rattle.std.proofs.Common.{◌≡◌, ℕ, zero, suc, ◌+◌, ◌-◌, ◌<◌, ◌≤◌, nat_lt, nat_le, ℤ, pos, negsuc, Bool, true, false, ◌&&◌, List, [], ◌∷◌, ◌++◌, length, Option, Some, None, refl, sym, ap, ◌∙◌, subst, arith, take, drop}
+use Rattle.std.proofs.Common.{◌≡◌, ℕ, ◌+◌, ◌-◌, ◌≤◌, ℤ, pos, true, false, List, [], ◌∷◌, length, refl, ◌∙◌, subst, arith, take}
 use Rattle.std.specs.Prelude.{IsTrue, reverse, replicate}
 use Rattle.std.proofs.lemmas.Bool.{false≢true}
-use Rattle.std.proofs.lemmas.List.{length-append, length-drop, length-take-le, length-reverse, length-replicate}
+use Rattle.std.proofs.lemmas.List.{length-append, length-take-le, length-reverse, length-replicate}
 use Rattle.dsm_check.specs.Resolved as r
 use Rattle.dsm_check.specs.Programs.{Program}
-use Rattle.dsm_semantics.specs.States.{Place, slot, cell, member, LockPlace, one_lock, lock_member, Use, for_value, for_change, for_step_behind, Item, third_part, State, top, below}
+use Rattle.dsm_semantics.specs.States.{LockPlace, one_lock, lock_member, Use, for_value, for_change, for_step_behind, Item, third_part, below}
 use Rattle.dsm_semantics.specs.Semantics.{loaded, below_index, new_slots, after_loop, after_body}
-use Rattle.dsm_laws_language.specs.States.{index_count, lock_index_count, loaded_count, takes, gives, is_outermost, has_loop, is_closed_item, Finds, AreClosed}
+use Rattle.dsm_laws_language.specs.States.{lock_index_count, loaded_count, takes, gives, is_outermost, has_loop, is_closed_item, AreClosed}
 
 pub never : {A : Type 0} → IsTrue false → A
 never h = absurd (false≢true h)

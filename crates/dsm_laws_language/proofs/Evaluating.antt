@@ -1,6 +1,6 @@
 -- Expressions, loads and stores of a closed state leave closed states.
-use Rattle.std.proofs.Common.{◌≡◌, ℕ, zero, suc, ◌+◌, ◌≤◌, nat_lt, ℤ, pos, Bool, true, false, cond, ◌&&◌, List, [], ◌∷◌, length, Option, Some, None, Ok, Err, refl, sym, ◌∙◌, subst, arith}
-use Rattle.std.specs.Prelude.{IsTrue, set, get_or, slice_get, is_some}
+use Rattle.std.proofs.Common.{◌≡◌, ℕ, suc, ◌+◌, ℤ, pos, Bool, true, false, cond, ◌&&◌, List, [], ◌∷◌, length, Option, Some, None, Ok, Err, refl, sym, ◌∙◌, subst, arith}
+use Rattle.std.specs.Prelude.{set, get_or, slice_get, is_some}
 use Rattle.std.proofs.lemmas.List.{length-set}
 use Rattle.std.proofs.lemmas.Bool.{eqb-true}
 use Rattle.dsm_base.specs.declared.names.Fault.{Fault}
@@ -8,16 +8,15 @@ use Rattle.dsm_base.specs.declared.label.Want.{Want}
 use Rattle.dsm_base.specs.Steps.{Move, goes, asks}
 use Rattle.dsm_syntax.specs.declared.tree.BinaryOp.{BinaryOp}
 use Rattle.dsm_syntax.specs.declared.tree.Sharing.{Sharing}
-use Rattle.dsm_check.specs.declared.resolved.Array.{Array}
 use Rattle.dsm_check.specs.Resolved as r
 use Rattle.dsm_check.specs.Programs.{Program}
 use Rattle.dsm_check.proofs.Successes.{both_true}
 use Rattle.dsm_values.specs.Values.{Outcome}
 use Rattle.dsm_semantics.specs.Assignments.{operator_of}
 use Rattle.dsm_semantics.specs.States.{Place, slot, cell, member, Use, for_value, for_change, for_step_behind, Item, evaluate, evaluate_all, test_index, load, store, unary, step_by, binary, and_then, or_else, choose, enter, discard, State, top, below}
-use Rattle.dsm_semantics.specs.Semantics.{faults, member_number, at_member, reaching, place_of, loaded, loads, load_at, stores, store_at, comes_to, second, assigning, numbered, evaluation, evaluation_of_all}
+use Rattle.dsm_semantics.specs.Semantics.{faults, member_number, at_member, reaching, place_of, loads, load_at, stores, store_at, comes_to, second, assigning, numbered, evaluation, evaluation_of_all}
 use Rattle.dsm_laws_language.specs.Closed.{is_callable, count_in, is_closed_location, is_closed_expression, are_closed_arguments, has_params}
-use Rattle.dsm_laws_language.specs.States.{index_count, loaded_count, params_of, takes, gives, is_outermost, has_loop, is_closed_place, is_closed_item, Finds, AreClosed, AllWait, IsClosedState}
+use Rattle.dsm_laws_language.specs.States.{index_count, loaded_count, takes, gives, is_outermost, has_loop, is_closed_place, is_closed_item, AreClosed, AllWait, IsClosedState}
 use Rattle.dsm_laws_language.proofs.Depths.{never, below_length, below_below_length, loaded_length, at_depth, put}
 
 -- a thread that wants this goes on behind the answer

@@ -1,17 +1,14 @@
 -- Statements of a closed state leave closed states. They stand outermost: below what they leave there are no operands.
-use Rattle.std.proofs.Common.{◌≡◌, ℕ, suc, ◌+◌, ℤ, pos, Bool, true, false, cond, ◌&&◌, List, [], ◌∷◌, length, Option, Some, None, refl, sym, ◌∙◌, subst, arith}
-use Rattle.std.specs.Prelude.{IsTrue, set, nat_lt, nat_le}
-use Rattle.std.specs.List.{list_all}
-use Rattle.dsm_base.specs.declared.label.Want.{Want}
-use Rattle.dsm_base.specs.Steps.{Move, goes, asks}
+use Rattle.std.proofs.Common.{◌≡◌, ℕ, ◌+◌, pos, true, ◌&&◌, List, [], ◌∷◌, length, Option, Some, None, refl, sym, arith}
+use Rattle.std.specs.Prelude.{nat_lt, nat_le}
 use Rattle.dsm_check.specs.Resolved as r
 use Rattle.dsm_check.specs.Programs.{Program}
 use Rattle.dsm_check.proofs.Successes.{both_true}
-use Rattle.dsm_semantics.specs.States.{Place, slot, LockPlace, one_lock, lock_member, Loop, Item, evaluate, test_index, store, discard, execute, run, declare, branch, round, decide, third_part, jump_back, leave, ask, give, cross, gather, print, State, top, below}
+use Rattle.dsm_semantics.specs.States.{slot, Loop, Item, evaluate, test_index, store, discard, execute, run, declare, branch, round, decide, third_part, leave, ask, give, cross, gather, print, State}
 use Rattle.dsm_semantics.specs.Within.{most_bytes}
-use Rattle.dsm_semantics.specs.Semantics.{declaring, declaration, branching, starting, testing, stepping, after_loop, after_body, reaching_lock, lock_place_of, gathering, values_in, execution, execution_of_all}
-use Rattle.dsm_laws_language.specs.Closed.{is_below, is_closed_option, is_closed_expression, is_closed_variable, are_closed_variables, is_closed_part, are_closed_parts, is_closed_print, is_closed_start, is_closed_lock, is_closed_statement, are_closed_statements}
-use Rattle.dsm_laws_language.specs.States.{lock_index_count, takes, gives, is_outermost, is_closed_lock_place, is_closed_loop, has_loop, is_closed_item, AreClosed, IsClosedState}
+use Rattle.dsm_semantics.specs.Semantics.{declaring, declaration, starting, testing, stepping, after_loop, after_body, reaching_lock, lock_place_of, gathering, values_in, execution, execution_of_all}
+use Rattle.dsm_laws_language.specs.Closed.{is_below, is_closed_option, is_closed_expression, is_closed_variable, are_closed_variables, is_closed_part, are_closed_parts, is_closed_start, is_closed_lock, is_closed_statement, are_closed_statements}
+use Rattle.dsm_laws_language.specs.States.{lock_index_count, takes, gives, is_closed_lock_place, is_closed_loop, has_loop, is_closed_item, AreClosed, IsClosedState}
 use Rattle.dsm_laws_language.proofs.Tests.{both}
 use Rattle.dsm_laws_language.proofs.Depths.{never, at_depth, put, after_loop_closed, after_body_closed}
 use Rattle.dsm_laws_language.proofs.Evaluating.{LeavesClosed, HasOthers, Done, with_operands, with_todo, with_slot, from_evaluate}
@@ -42,7 +39,7 @@ module _ (program : Program) where
         → is_closed_loop program slots loop ≡ true → From 0 k → From 0 (testing k loop test)
     from_testing k loop None h closed done =
         let rest = (both_true (is_closed_option (is_closed_expression program slots) loop.test)
-            (is_closed_option (is_closed_expression program slots) loop.step && is_closed_statement program slots true loop.body) closed).1 in
+        (is_closed_option (is_closed_expression program slots) loop.step && is_closed_statement program slots true loop.body) closed).1 in
         from_outermost (execute loop.body) (third_part loop ∷ k) refl refl
         (both_true (is_closed_option (is_closed_expression program slots) loop.step) (is_closed_statement program slots true loop.body) rest).1
         (from_outermost (third_part loop) k refl refl closed done)
@@ -124,7 +121,7 @@ module _ (program : Program) where
           (from_value (length s.slots) test (branch body None) s.todo refl refl split.0 (both split.1 refl) done)
       leaves_execution (r.either test body other) h done =
           let split = both_true (is_closed_expression program (length s.slots) test)
-              (is_closed_statement program (length s.slots) (has_loop s.todo) body && is_closed_statement program (length s.slots) (has_loop s.todo) other) h in
+          (is_closed_statement program (length s.slots) (has_loop s.todo) body && is_closed_statement program (length s.slots) (has_loop s.todo) other) h in
           leaves_todo (evaluate test ∷ branch body (Some other) ∷ s.todo)
           (from_value (length s.slots) test (branch body (Some other)) s.todo refl refl split.0 split.1 done)
       leaves_execution (r.while test body) h done =
@@ -166,7 +163,7 @@ module _ (program : Program) where
       leaves_statements r.none h done = leaves_todo s.todo done
       leaves_statements (r.then statement rest) h done =
           let split = both_true (is_closed_statement program (length s.slots) (has_loop s.todo) statement)
-              (are_closed_statements program (length s.slots) (has_loop s.todo) rest) h in
+          (are_closed_statements program (length s.slots) (has_loop s.todo) rest) h in
           leaves_todo (execute statement ∷ run rest ∷ s.todo)
           (from_outermost (length s.slots) (execute statement) (run rest ∷ s.todo) refl refl split.0
           (from_outermost (length s.slots) (run rest) s.todo refl refl split.1 done))

@@ -1,7 +1,7 @@
 -- What the names of an accepted program stand for is there.
-use Rattle.std.proofs.Common.{◌≡◌, ℕ, zero, suc, ◌+◌, ◌<◌, ◌≤◌, nat_lt, nat_le, Bool, true, false, ◌==◌, ◌&&◌, List, [], ◌∷◌, ◌++◌, length, bytes_eq, Option, Some, None, IfSome, Ok, Err, refl, sym, ap, ◌∙◌, subst, if◌then◌else◌, arith}
+use Rattle.std.proofs.Common.{◌≡◌, ℕ, zero, suc, ◌+◌, ◌≤◌, nat_lt, Bool, true, false, ◌==◌, List, [], ◌∷◌, ◌++◌, length, bytes_eq, Option, Some, None, IfSome, Ok, Err, refl, sym, ◌∙◌, subst, if◌then◌else◌, arith}
 use Rattle.std.specs.Prelude.{slice_get}
-use Rattle.std.proofs.lemmas.Bool.{lt-ltb, le-leb, eq-eqb, eqb-true}
+use Rattle.std.proofs.lemmas.Bool.{eq-eqb, eqb-true}
 use Rattle.std.proofs.lemmas.Bool.Decides.{nat_tests}
 use Rattle.std.proofs.lemmas.List.{length-append}
 use Rattle.dsm_syntax.specs.declared.errors.ProgErr.TheVariants as err
@@ -12,13 +12,12 @@ use Rattle.dsm_syntax.specs.declared.tree.Declarator.{Declarator}
 use Rattle.dsm_syntax.specs.declared.tree.Sharing.{Sharing}
 use Rattle.dsm_syntax.specs.Tree as t
 use Rattle.dsm_check.specs.declared.names.Named.{Named}
-use Rattle.dsm_check.specs.declared.resolved.Array.{Array}
 use Rattle.dsm_check.specs.Resolved as r
 use Rattle.dsm_check.specs.Environments.{Entry, opened, known, meaning, closed, extent, total, cells_in, locks_in, barriers_in, functions_in}
-use Rattle.dsm_check.specs.Checks.{Check, each, used, new, within, wrong_kind}
+use Rattle.dsm_check.specs.Checks.{Check, each, used, new, within}
 use Rattle.dsm_check.specs.Numbers.{is_numbered, is_next}
-use Rattle.dsm_check.specs.FileNames.{with_cells, with_locks, with_barrier, with_function, with_item, file_names, params_of, size_of, cells_limit, most_cells, main_of, main_name}
-use Rattle.dsm_check.specs.Bodies.{resolve_function, resolve_statements, with_variable, with_body, functions_of, is_void, as_called, Scope, Around}
+use Rattle.dsm_check.specs.FileNames.{with_cells, with_locks, with_barrier, with_function, with_item, file_names, params_of, size_of, cells_limit, most_cells, main_of}
+use Rattle.dsm_check.specs.Bodies.{resolve_function, resolve_statements, with_variable, with_body, functions_of}
 use Rattle.dsm_check.specs.Programs.{Program}
 use Rattle.dsm_check.proofs.Successes.{then_in, each_keeps, both_true}
 use Rattle.dsm_laws_language.specs.Closed.{cells_of, is_below, has_params, is_callable}
@@ -105,7 +104,7 @@ added names functions name returns params made same step = record {
   count = omega (arith, step.count, length-append functions (made ∷ []));
   are = (
     subst (λ number. has_params params (slice_get (functions ++ made ∷ []) number) ≡ true) (sym step.count)
-    (subst (λ count. has_params count (slice_get (functions ++ made ∷ []) (length functions)) ≡ true) same (last_has functions made)),
+        (subst (λ count. has_params count (slice_get (functions ++ made ∷ []) (length functions)) ≡ true) same (last_has functions made)),
     still_functions functions (made ∷ []) names step.are,
   );
 }

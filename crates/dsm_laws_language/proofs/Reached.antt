@@ -1,13 +1,13 @@
 -- The states that threads of closed programs come to are closed, and find all that their steps read.
-use Rattle.std.proofs.Common.{◌≡◌, ℕ, ◌+◌, ◌≤◌, nat_lt, nat_le, ℤ, pos, negsuc, Bool, true, false, cond, ◌&&◌, List, [], ◌∷◌, length, Option, Some, None, refl, sym, ◌∙◌, subst, arith}
-use Rattle.std.specs.Prelude.{IsTrue, slice_get, is_some, replicate}
+use Rattle.std.proofs.Common.{◌≡◌, ℕ, ◌+◌, nat_lt, nat_le, ℤ, pos, negsuc, Bool, true, false, cond, ◌&&◌, List, [], ◌∷◌, length, Option, Some, None, refl, sym, subst, arith}
+use Rattle.std.specs.Prelude.{IsTrue, slice_get, is_some}
 use Rattle.std.specs.List.{list_all}
 use Rattle.std.proofs.lemmas.Bool.{lt-ltb, le-leb, ltb-true, leb-true, eqb-true}
 use Rattle.std.proofs.lemmas.List.{length-replicate}
 use Rattle.dsm_base.specs.declared.label.Want.{Want}
 use Rattle.dsm_base.specs.declared.label.Label.{Label}
 use Rattle.dsm_base.specs.Threads.{AnswersTo, Completes, MayBeDone, state_after}
-use Rattle.dsm_base.specs.Steps.{Move, goes, asks, want_of, next_of, Over, ended, stopped}
+use Rattle.dsm_base.specs.Steps.{want_of, next_of, Over, ended, stopped}
 use Rattle.dsm_base.proofs.StepsSettle.{settled_keeps}
 use Rattle.dsm_syntax.specs.declared.tree.Sharing.{Sharing}
 use Rattle.dsm_check.specs.declared.checked.Checked.{Checked}
@@ -18,12 +18,12 @@ use Rattle.dsm_check.specs.Programs.{Program}
 use Rattle.dsm_check.proofs.Successes.{both_true}
 use Rattle.dsm_semantics.specs.Programs.{threads_of, first_states}
 use Rattle.dsm_semantics.specs.States.{Place, slot, cell, member, Item, load, store, enter, execute, declare, State, top, below, over}
-use Rattle.dsm_semantics.specs.Semantics.{member_number, numbered, step, ready, completed, started}
+use Rattle.dsm_semantics.specs.Semantics.{member_number, numbered, step, ready, completed}
 use Rattle.dsm_semantics.proofs.Falls.{weight_at, step_falls}
 use Rattle.dsm_laws_language.specs.Closed.{is_below, is_callable, has_params, is_closed_option, is_closed_expression, is_closed_variable, are_closed_variables, is_closed_statement, are_closed_statements, is_closed_function, has_limits, is_closed}
-use Rattle.dsm_laws_language.specs.States.{takes, has_loop, is_closed_place, is_closed_item, Finds, AreClosed, IsClosedState, is_own, has_place, has_slot, has_function, has_its_loop, has_named, finds, finds_all, IsReached, at_first, by_step, by_label, started_in, AllAnswer}
+use Rattle.dsm_laws_language.specs.States.{takes, has_loop, is_closed_place, is_closed_item, AreClosed, IsClosedState, is_own, has_place, has_slot, has_function, has_its_loop, has_named, finds, finds_all, IsReached, at_first, by_step, by_label, started_in, AllAnswer}
 use Rattle.dsm_laws_language.proofs.Tests.{both}
-use Rattle.dsm_laws_language.proofs.Evaluating.{MayGoOn, LeavesClosed}
+use Rattle.dsm_laws_language.proofs.Evaluating.{MayGoOn}
 use Rattle.dsm_laws_language.proofs.Steps.{function_closed, begins, step_leaves, goes_closed, next_closed}
 use Rattle.dsm_laws_language.proofs.Accepted.{accepted_closed}
 

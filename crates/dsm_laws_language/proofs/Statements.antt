@@ -1,5 +1,5 @@
 -- Statements of an accepted program are closed. What is said of slots is said of each number of slots that the function may have in the end.
-use Rattle.std.proofs.Common.{◌≡◌, ℕ, suc, ◌+◌, ◌<◌, ◌≤◌, nat_lt, nat_le, Bool, true, false, ◌&&◌, List, [], ◌∷◌, ◌++◌, length, Option, Some, None, Ok, Err, refl, sym, subst, if◌then◌else◌, arith}
+use Rattle.std.proofs.Common.{◌≡◌, ℕ, ◌+◌, ◌≤◌, Bool, true, false, ◌&&◌, List, [], ◌∷◌, length, Ok, Err, refl, if◌then◌else◌, arith}
 use Rattle.std.specs.List.{list_all}
 use Rattle.std.proofs.lemmas.Bool.{lt-ltb, le-leb}
 use Rattle.dsm_syntax.specs.declared.errors.ProgErr.TheVariants as err
@@ -7,16 +7,15 @@ use Rattle.dsm_syntax.specs.declared.errors.Which.TheVariants as which
 use Rattle.dsm_syntax.specs.declared.tree.Name.{Name}
 use Rattle.dsm_syntax.specs.Tree as t
 use Rattle.dsm_syntax.specs.Sound.{is_sound_option, is_sound, is_sound_start, is_sound_statement, are_sound_statements, is_sound_item, is_sound_program}
-use Rattle.dsm_check.specs.declared.names.Named.{Named}
 use Rattle.dsm_check.specs.Resolved as r
-use Rattle.dsm_check.specs.Environments.{Entry, opened, known}
+use Rattle.dsm_check.specs.Environments.{Entry, opened}
 use Rattle.dsm_check.specs.Checks.{Check, each, each_made, used, new, within}
 use Rattle.dsm_check.specs.FileNames.{params_of}
 use Rattle.dsm_check.specs.Bindings.{as_barrier}
 use Rattle.dsm_check.specs.Bodies.{Scope, Around, resolve, resolve_effect, optional, with_variable, resolve_variable, open_block, closing, resolve_lock, resolve_print, resolve_start, resolve_return, resolve_statement, resolve_statements, resolve_function, with_body}
 use Rattle.dsm_check.specs.Programs.{Program}
 use Rattle.dsm_check.proofs.Successes.{then_in, both_true}
-use Rattle.dsm_laws_language.specs.Closed.{is_closed_option, is_closed_expression, is_closed_variable, are_closed_variables, is_closed_start, is_closed_statement, are_closed_statements, is_closed_function}
+use Rattle.dsm_laws_language.specs.Closed.{is_closed_variable, are_closed_variables, is_closed_start, is_closed_statement, are_closed_statements, is_closed_function}
 use Rattle.dsm_laws_language.proofs.Tests.{both, ok_in, within_is, all_more}
 use Rattle.dsm_laws_language.proofs.Names.{AreNamesClosed, still_closed, used_closed, all_any_slots}
 use Rattle.dsm_laws_language.proofs.Expressions.{barrier_closed, expression_closed, effect_closed, optional_closed, lock_closed, print_closed, return_closed}
@@ -40,11 +39,13 @@ module _ (program : Program) where
   variable_known scope name after h fit =
       then_in (new scope.names name) _ after h (λ text e1 h1.
       then_in (within which.Slots 192 (scope.slots + 1)) _ after h1 (λ count e2 h2.
-      ok_in (λ s. Fit s × (s.slots ≡ scope.slots + 1)) _ after h2
-      (record {
-        few = (within_is which.Slots 192 (scope.slots + 1) count e2).1;
-        names = λ slots more. (lt-ltb scope.slots slots (omega (arith, more)), fit.names slots (omega (arith, more)));
-      }, refl)))
+      ok_in (λ s. Fit s × (s.slots ≡ scope.slots + 1)) _ after h2 (
+        record {
+          few = (within_is which.Slots 192 (scope.slots + 1) count e2).1;
+          names = λ slots more. (lt-ltb scope.slots slots (omega (arith, more)), fit.names slots (omega (arith, more)));
+        },
+        refl,
+      )))
 
   variable_closed : (scope : Scope) (variable : t.Variable) (made : r.Variable × Scope) → resolve_variable scope variable ≡ Ok made → Fit scope
       → Grows scope.slots (λ slots. is_closed_variable program slots made.0 ≡ true) made.1
@@ -131,7 +132,7 @@ module _ (program : Program) where
       statement_closed looped scope (t.block body) made sound h fit =
           then_in (closing (resolve_statements around looped (open_block scope) body)) _ made h (λ inner e1 h1.
           let kept = closing_grows scope.slots (AreClosed looped) _ inner e1
-              (λ inside e. statements_closed looped (open_block scope) body inside sound e (opened_fit scope fit)) in
+          (λ inside e. statements_closed looped (open_block scope) body inside sound e (opened_fit scope fit)) in
           ok_in (Keeps looped scope) _ made h1 (record { more = kept.more; fit = kept.fit; made = kept.made }))
       statement_closed looped scope t.empty made sound h fit = ok_in (Keeps looped scope) (r.empty, scope) made h (stays scope _ fit (λ slots all. refl))
       statement_closed looped scope (t.variables variables) made sound h fit =
@@ -146,7 +147,7 @@ module _ (program : Program) where
           then_in (resolve scope.names test) _ made h (λ condition e1 h1.
           then_in (closing (resolve_statement around looped (open_block scope) body)) _ made h1 (λ inner e2 h2.
           let kept = closing_grows scope.slots (IsClosed looped) _ inner e2
-              (λ inside e. statement_closed looped (open_block scope) body inside of_body e (opened_fit scope fit)) in
+          (λ inside e. statement_closed looped (open_block scope) body inside of_body e (opened_fit scope fit)) in
           ok_in (Keeps looped scope) _ made h2 (record {
             more = kept.more;
             fit = kept.fit;
@@ -160,9 +161,9 @@ module _ (program : Program) where
           then_in (closing (resolve_statement around looped (open_block scope) body)) _ made h1 (λ inner e2 h2.
           then_in (closing (resolve_statement around looped (open_block inner.1) other)) _ made h2 (λ more e3 h3.
           let kept = closing_grows scope.slots (IsClosed looped) _ inner e2
-              (λ inside e. statement_closed looped (open_block scope) body inside of_body e (opened_fit scope fit)) in
+          (λ inside e. statement_closed looped (open_block scope) body inside of_body e (opened_fit scope fit)) in
           let last = closing_grows inner.1.slots (IsClosed looped) _ more e3
-              (λ inside e. statement_closed looped (open_block inner.1) other inside split.1 e (opened_fit inner.1 kept.fit)) in
+          (λ inside e. statement_closed looped (open_block inner.1) other inside split.1 e (opened_fit inner.1 kept.fit)) in
           ok_in (Keeps looped scope) _ made h3 (record {
             more = omega (arith, kept.more, last.more);
             fit = last.fit;
@@ -175,7 +176,7 @@ module _ (program : Program) where
           then_in (resolve scope.names test) _ made h (λ condition e1 h1.
           then_in (closing (resolve_statement around true (open_block scope) body)) _ made h1 (λ inner e2 h2.
           let kept = closing_grows scope.slots (IsClosed true) _ inner e2
-              (λ inside e. statement_closed true (open_block scope) body inside of_body e (opened_fit scope fit)) in
+          (λ inside e. statement_closed true (open_block scope) body inside of_body e (opened_fit scope fit)) in
           ok_in (Keeps looped scope) _ made h2 (record {
             more = kept.more;
             fit = kept.fit;
@@ -192,7 +193,7 @@ module _ (program : Program) where
           let first = start_closed (open_block scope) start begun e1 (opened_fit scope fit) in
           let names = begun.1.names in
           let kept = closing_grows begun.1.slots (IsClosed true) _ inner e4
-              (λ deep f. statement_closed true (open_block begun.1) body deep of_body f (opened_fit begun.1 first.fit)) in
+          (λ deep f. statement_closed true (open_block begun.1) body deep of_body f (opened_fit begun.1 first.fit)) in
           ok_in (Keeps looped scope) _ inside h4 (record {
             more = omega (arith, first.more, kept.more);
             fit = kept.fit;

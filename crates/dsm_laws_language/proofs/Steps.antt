@@ -1,20 +1,18 @@
 -- Steps of a closed state leave closed states.
-use Rattle.std.proofs.Common.{◌≡◌, ℕ, zero, suc, ◌+◌, ◌-◌, ◌<◌, ◌≤◌, nat_lt, ℤ, pos, Bool, true, false, cond, ◌&&◌, List, [], ◌∷◌, length, Option, Some, None, Ok, Err, refl, sym, ap, ◌∙◌, subst, if◌then◌else◌, arith, take, drop}
-use Rattle.std.specs.Prelude.{IsTrue, slice_get, is_some, nat_le, reverse}
+use Rattle.std.proofs.Common.{◌≡◌, ℕ, zero, suc, ◌+◌, nat_lt, ℤ, pos, Bool, true, false, ◌&&◌, List, [], ◌∷◌, length, Option, Some, None, refl, sym, subst, if◌then◌else◌, arith, take, drop}
+use Rattle.std.specs.Prelude.{slice_get, nat_le, reverse}
 use Rattle.std.specs.List.{list_all}
 use Rattle.std.proofs.lemmas.Bool.{leb-true}
 use Rattle.std.proofs.lemmas.List.{length-drop}
 use Rattle.dsm_base.specs.declared.names.Fault.{Fault}
 use Rattle.dsm_base.specs.declared.label.Want.{Want}
-use Rattle.dsm_base.specs.declared.label.Label.{Label}
-use Rattle.dsm_base.specs.Threads.{AnswersTo}
-use Rattle.dsm_base.specs.Steps.{Move, goes, asks, want_of, next_of, answer_of, Over}
+use Rattle.dsm_base.specs.Steps.{Move, goes, asks, want_of, next_of, Over}
 use Rattle.dsm_check.specs.Resolved as r
 use Rattle.dsm_check.specs.Programs.{Program}
 use Rattle.dsm_check.proofs.Successes.{both_true}
 use Rattle.dsm_values.specs.Values.{holds, truth, unary_value, step_value, binary_value}
-use Rattle.dsm_semantics.specs.States.{Place, LockPlace, Loop, Item, evaluate, evaluate_all, test_index, load, store, unary, step_by, binary, and_then, or_else, to_truth, choose, enter, discard, execute, run, declare, branch, round, decide, third_part, jump_back, leave, ask, take_lock, give, cross, gather, print, Frame, State, top, below}
-use Rattle.dsm_semantics.specs.Semantics.{member_number, at_member, numbered, entered, entering, faults, new_slots, returns, branching, testing, stepping, lock_line, lock_number, below_index, values_in, act, act_first, step_in, step, ready, completed}
+use Rattle.dsm_semantics.specs.States.{LockPlace, Loop, Item, evaluate, evaluate_all, test_index, load, store, unary, step_by, binary, and_then, or_else, to_truth, choose, enter, discard, execute, run, declare, branch, round, decide, third_part, jump_back, leave, ask, take_lock, give, cross, gather, print, Frame, State, top, below}
+use Rattle.dsm_semantics.specs.Semantics.{member_number, at_member, numbered, entered, entering, faults, new_slots, returns, branching, testing, stepping, lock_line, lock_number, below_index, values_in, act, act_first, step_in, step}
 use Rattle.dsm_laws_language.specs.Closed.{is_callable, is_closed_option, is_closed_expression, is_closed_statement, are_closed_statements, is_closed_function, has_limits, is_closed}
 use Rattle.dsm_laws_language.specs.States.{params_of, lock_index_count, takes, gives, is_outermost, is_closed_loop, has_loop, is_closed_item, Finds, AreClosed, AllWait, IsClosedState}
 use Rattle.dsm_laws_language.proofs.Depths.{never, below_length, below_below_length, below_index_length, slots_length, arguments_length, at_depth, put}
@@ -88,7 +86,7 @@ module _ (program : Program) (closed : is_closed program ≡ true) where
         → Done program s 0 (if test then execute loop.body ∷ third_part loop ∷ s.todo else s.todo)
     decide_closed true loop h done =
         let rest = (both_true (is_closed_option (is_closed_expression program (length s.slots)) loop.test)
-            (is_closed_option (is_closed_expression program (length s.slots)) loop.step && is_closed_statement program (length s.slots) true loop.body) h).1 in
+        (is_closed_option (is_closed_expression program (length s.slots)) loop.step && is_closed_statement program (length s.slots) true loop.body) h).1 in
         from_outermost program (length s.slots) (execute loop.body) (third_part loop ∷ s.todo) refl refl
         (both_true (is_closed_option (is_closed_expression program (length s.slots)) loop.step) (is_closed_statement program (length s.slots) true loop.body) rest).1
         (from_outermost program (length s.slots) (third_part loop) s.todo refl refl h done)
@@ -181,12 +179,12 @@ module _ (program : Program) (closed : is_closed program ≡ true) where
         leaves_declaration program s others (alone (declare variables) rest 0 finds refl refl) variables h (behind (declare variables) rest finds refl refl done)
     leaves_act (branch body other) rest finds h done =
         let split = both_true (is_closed_statement program (length s.slots) (has_loop s.todo) body)
-            (is_closed_option (is_closed_statement program (length s.slots) (has_loop s.todo)) other) h in
+        (is_closed_option (is_closed_statement program (length s.slots) (has_loop s.todo)) other) h in
         goes_on_below (branching s.todo (if holds (top s.operands) then Some body else other)) (alone (branch body other) rest 1 finds refl refl)
         (branch_closed (holds (top s.operands)) body other split.0 split.1 (behind (branch body other) rest finds refl refl done))
     leaves_act (round loop) rest finds h done =
         let test = (both_true (is_closed_option (is_closed_expression program (length s.slots)) loop.test)
-            (is_closed_option (is_closed_expression program (length s.slots)) loop.step && is_closed_statement program (length s.slots) true loop.body) h).0 in
+        (is_closed_option (is_closed_expression program (length s.slots)) loop.step && is_closed_statement program (length s.slots) true loop.body) h).0 in
         leaves_todo program s others (alone (round loop) rest 0 finds refl refl) (testing s.todo loop loop.test)
         (from_testing program (length s.slots) s.todo loop loop.test test h (behind (round loop) rest finds refl refl done))
     leaves_act (decide loop) rest finds h done =
@@ -194,7 +192,7 @@ module _ (program : Program) (closed : is_closed program ≡ true) where
         (decide_closed (holds (top s.operands)) loop h (behind (decide loop) rest finds refl refl done))
     leaves_act (third_part loop) rest finds h done =
         let later = (both_true (is_closed_option (is_closed_expression program (length s.slots)) loop.test)
-            (is_closed_option (is_closed_expression program (length s.slots)) loop.step && is_closed_statement program (length s.slots) true loop.body) h).1 in
+        (is_closed_option (is_closed_expression program (length s.slots)) loop.step && is_closed_statement program (length s.slots) true loop.body) h).1 in
         let of_step = (both_true (is_closed_option (is_closed_expression program (length s.slots)) loop.step) (is_closed_statement program (length s.slots) true loop.body) later).0 in
         leaves_todo program s others (alone (third_part loop) rest 0 finds refl refl) (stepping (jump_back loop ∷ s.todo) loop.step)
         (from_stepping program (length s.slots) (jump_back loop ∷ s.todo) loop.step of_step

@@ -9,7 +9,7 @@ use Rattle.dsm_check.specs.Programs.{Program}
 use Rattle.dsm_semantics.specs.States.{Place, slot, cell, member, LockPlace, one_lock, lock_member, Use, for_value, for_change, for_step_behind, Loop, Item, evaluate, evaluate_all, test_index, load, store, unary, step_by, binary, and_then, or_else, to_truth, choose, enter, discard, execute, run, declare, branch, round, decide, third_part, jump_back, leave, ask, take_lock, give, cross, gather, print, Frame, State, top, below}
 use Rattle.dsm_semantics.specs.Semantics.{member_number, numbered, values_in, step, completed, started}
 use Rattle.dsm_semantics.specs.Programs.{threads_of, first_states}
-use Rattle.dsm_laws_language.specs.Closed.{cells_of, is_below, is_callable, count_in, is_closed_option, is_closed_expression, are_closed_arguments, are_closed_variables, are_closed_parts, is_closed_statement, are_closed_statements}
+use Rattle.dsm_laws_language.specs.Closed.{cells_of, is_below, count_in, is_closed_option, is_closed_expression, are_closed_arguments, are_closed_variables, are_closed_parts, is_closed_statement, are_closed_statements}
 
 -- How many operands items take and leave.
 
