@@ -8,3 +8,4 @@ pub mod Evaluating
 pub mod Executing
 pub mod Steps
 pub mod Reached
+pub mod Wants

@@ -234,3 +234,8 @@ AllAnswer program procs me [] = Unit {0}
 AllAnswer program procs me (label ∷ before) =
     AllAnswer program procs me before
     × AnswersTo ((threads_of program).want (state_after (threads_of program) (first_states program procs me) before)) label
+
+-- a print comes next
+abbrev pub is_print_next : List Item → Bool
+is_print_next (print parts ∷ k) = true
+is_print_next _ = false

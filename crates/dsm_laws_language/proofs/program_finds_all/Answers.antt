@@ -1,5 +1,6 @@
 use Rattle.dsm_laws_language.proofs.Steps.{goes_closed}
 use Rattle.dsm_laws_language.proofs.Reached.{started_closed, completed_closed, closed_finds, reached_finds, labels_reached}
+use Rattle.dsm_laws_language.proofs.Wants.{over_only, line_only}
 use Rattle.dsm_laws_language.proofs.program_finds_all.Goals as goal
 
 pub returns : goal.returns
@@ -10,4 +11,6 @@ returns c = record {
   finds = λ program s closed state. closed_finds program closed s state;
   reached = reached_finds;
   after_labels = labels_reached;
+  over = over_only;
+  line = line_only;
 }
