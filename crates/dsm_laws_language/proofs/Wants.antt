@@ -1,15 +1,14 @@
 -- Only a thread that is over wants nothing more, and only a print wants a line.
-use Rattle.std.proofs.Common.{◌≡◌, ℕ, ◌+◌, nat_lt, ℤ, pos, Bool, true, false, cond, List, [], ◌∷◌, length, Option, Some, None, Ok, Err, refl, sym, subst}
-use Rattle.std.specs.Prelude.{IsTrue, IsSome, slice_get}
-use Rattle.dsm_base.specs.declared.names.Fault.{Fault}
+use Rattle.std.proofs.Common.{◌≡◌, ℕ, ◌+◌, nat_lt, ℤ, pos, Bool, true, false, cond, List, [], ◌∷◌, length, Option, Some, None, Ok, Err, refl, subst}
+use Rattle.std.specs.Prelude.{IsTrue, IsSome}
 use Rattle.dsm_base.specs.declared.label.Want.{Want}
 use Rattle.dsm_base.specs.Steps.{Move, goes, asks, want_of, Over}
 use Rattle.dsm_base.proofs.StepsSettle.{Asks, settled_reaches}
 use Rattle.dsm_syntax.specs.declared.tree.Sharing.{Sharing}
 use Rattle.dsm_check.specs.Resolved as r
 use Rattle.dsm_values.specs.Values.{Outcome, holds, unary_value, step_value, binary_value}
-use Rattle.dsm_semantics.specs.States.{Place, slot, cell, member, LockPlace, Use, Item, evaluate, evaluate_all, test_index, load, store, unary, step_by, binary, and_then, or_else, to_truth, choose, enter, discard, execute, run, declare, branch, round, decide, third_part, jump_back, leave, ask, take_lock, give, cross, gather, print, Frame, State, top, below}
-use Rattle.dsm_semantics.specs.Semantics.{faults, member_number, at_member, loads, load_at, stores, store_at, comes_to, numbered, entered, entering, returns, declaring, declaration, lock_line, lock_number, gathering, evaluation, evaluation_of_all, execution, execution_of_all, act, act_first, step_in, step, ready}
+use Rattle.dsm_semantics.specs.States.{Place, slot, cell, member, Use, Item, evaluate, evaluate_all, test_index, load, store, unary, step_by, binary, and_then, or_else, to_truth, choose, enter, discard, execute, run, declare, branch, round, decide, third_part, jump_back, leave, ask, take_lock, give, cross, gather, print, Frame, State, top, below}
+use Rattle.dsm_semantics.specs.Semantics.{member_number, at_member, loads, load_at, stores, store_at, comes_to, returns, declaring, declaration, lock_line, lock_number, gathering, evaluation, evaluation_of_all, execution, execution_of_all, act, act_first, step_in, step, ready}
 use Rattle.dsm_semantics.proofs.Falls.{weight_at, step_falls}
 use Rattle.dsm_laws_language.specs.States.{is_print_next}
 

@@ -31,19 +31,21 @@ abbrev pub count_in : r.Expressions → ℕ
 count_in r.nil = 0
 count_in (r.cons e rest) = suc (count_in rest)
 
--- where there is one
+-- of what may be missing
 abbrev pub is_closed_option : {A : Type 0} → (A → Bool) → Option A → Bool
 is_closed_option test None = true
 is_closed_option test (Some a) = test a
 
--- of a function with so many slots: its locations and expressions
+-- what a function with so many slots names is there
 abbrev mutual
+  -- of a location
   pub is_closed_location : Program → ℕ → r.Location → Bool
   is_closed_location program slots (r.variable number) = nat_lt number slots
   is_closed_location program slots (r.cell sharing number line) = nat_lt number (cells_of program sharing)
   is_closed_location program slots (r.element sharing array index line) =
       is_below (cells_of program sharing) array && is_closed_expression program slots index
 
+  -- of an expression, whose calls give as many arguments as there are parameters
   pub is_closed_expression : Program → ℕ → r.Expression → Bool
   is_closed_expression program slots (r.number n) = true
   is_closed_expression program slots (r.load location) = is_closed_location program slots location
@@ -58,6 +60,7 @@ abbrev mutual
   is_closed_expression program slots (r.assign location op line e) =
       is_closed_location program slots location && is_closed_expression program slots e
 
+  -- of arguments
   pub are_closed_arguments : Program → ℕ → r.Expressions → Bool
   are_closed_arguments program slots r.nil = true
   are_closed_arguments program slots (r.cons e rest) = is_closed_expression program slots e && are_closed_arguments program slots rest
@@ -66,6 +69,7 @@ abbrev mutual
 abbrev pub is_closed_variable : Program → ℕ → r.Variable → Bool
 is_closed_variable program slots variable = nat_lt variable.slot slots && is_closed_option (is_closed_expression program slots) variable.initial
 
+-- of declarations
 abbrev pub are_closed_variables : Program → ℕ → List r.Variable → Bool
 are_closed_variables program slots variables = list_all (is_closed_variable program slots) variables
 
@@ -74,6 +78,7 @@ abbrev pub is_closed_part : Program → ℕ → r.Part → Bool
 is_closed_part program slots (r.part_text text) = is_sound_string text
 is_closed_part program slots (r.part_value e) = is_closed_expression program slots e
 
+-- of all parts
 abbrev pub are_closed_parts : Program → ℕ → List r.Part → Bool
 are_closed_parts program slots parts = list_all (is_closed_part program slots) parts
 
@@ -92,8 +97,9 @@ abbrev pub is_closed_lock : Program → ℕ → r.LockPlace → Bool
 is_closed_lock program slots (r.one_lock lock line) = nat_lt lock.0 program.locks
 is_closed_lock program slots (r.lock_element array index line) = is_below program.locks array && is_closed_expression program slots index
 
--- of a statement by whether it is in a loop, and of many
+-- the same of a statement, and of many
 abbrev mutual
+  -- of a statement, by whether it is in a loop
   pub is_closed_statement : Program → ℕ → Bool → r.Statement → Bool
   is_closed_statement program slots looped (r.block body) = are_closed_statements program slots looped body
   is_closed_statement program slots looped r.empty = true
@@ -116,6 +122,7 @@ abbrev mutual
   is_closed_statement program slots looped (r.barrier bar) = nat_lt bar.0 program.barriers
   is_closed_statement program slots looped (r.print parts) = is_closed_print program slots parts
 
+  -- of statements
   pub are_closed_statements : Program → ℕ → Bool → r.Statements → Bool
   are_closed_statements program slots looped r.none = true
   are_closed_statements program slots looped (r.then statement rest) =

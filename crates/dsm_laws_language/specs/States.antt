@@ -57,7 +57,7 @@ takes program (give lock) = lock_index_count lock
 takes program (print parts) = values_in parts
 takes program _ = 0
 
--- how many it leaves in their place, once all that it brings is done
+-- how many it leaves in their place, once all that it brings with it is done
 abbrev pub gives : Item → ℕ
 gives (evaluate e) = 1
 gives (evaluate_all arguments) = count_in arguments
