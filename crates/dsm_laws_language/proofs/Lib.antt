@@ -1,0 +1,11 @@
+pub mod Tests
+pub mod Names
+pub mod Expressions
+pub mod Statements
+pub mod Accepted
+pub mod Depths
+pub mod Evaluating
+pub mod Executing
+pub mod Steps
+pub mod Reached
+pub mod Wants
