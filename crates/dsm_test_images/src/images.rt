@@ -36,26 +36,30 @@ const OTHER_DIGEST: [u8; 32] = [
     189, 129, 227, 44, 18, 114, 211, 136, 246,
 ];
 
-/// The cell of a lock.
-fn piece(lock: u16, cell: u32) -> Piece {
-    Piece {
-        object: Object::Lock(Lock(lock)),
-        first: Cell(cell),
+/// Two processors, two locks with cells 0 and 1, a barrier, and a cell in no piece.
+fn setup(alloc: Global) -> Result<Setup, MemFault> {
+    let first = Piece {
+        object: Object::Lock(Lock(0)),
+        first: Cell(0),
         count: 1,
         owner: 0,
         phase: 0,
         period: 0,
-    }
-}
-
-/// Two processors, two locks with cells 0 and 1, a barrier, and a cell in no piece.
-fn setup(alloc: Global) -> Result<Setup, MemFault> {
+    };
+    let second = Piece {
+        object: Object::Lock(Lock(1)),
+        first: Cell(1),
+        count: 1,
+        owner: 0,
+        phase: 0,
+        period: 0,
+    };
     Ok(Setup {
         procs: 2,
         locks: 2,
         bars: 1,
         cells: 3,
-        bindings: Items::from_slice(alloc, &[piece(0, 0), piece(1, 1)])?,
+        bindings: Items::from_slice(alloc, &[first, second])?,
     })
 }
 
