@@ -1,5 +1,5 @@
 -- Faults of what was handed in.
-use Rattle.std.specs.Prelude.{◌≤◌, ℕ, Err}
+use Rattle.std.specs.Prelude.{◌≤◌, ℕ, Result, Ok, Err}
 use Rattle.std.proofs.Common.{arith}
 use Rattle.dsm_base.specs.declared.errors.ReadErr.{ReadErr}
 use Rattle.dsm_base.specs.Causes.{Rose, IfFailed, HasCause}
@@ -18,3 +18,7 @@ cause_before before old now e earlier cause = record {
   later = omega (arith, earlier, cause.later);
   rose = if_failed_before before old now e earlier cause.rose;
 }
+
+pub cause_since : {T : Type 0} → (before old now : ℕ) (result : Result T ReadErr) → before ≤ old → HasCause {T = T} old now result → HasCause {T = T} before now result
+cause_since before old now (Ok value) earlier cause = record { later = omega (arith, earlier, cause.later); rose = tt }
+cause_since before old now (Err e) earlier cause = cause_before before old now e earlier cause

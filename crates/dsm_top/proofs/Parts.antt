@@ -1,5 +1,5 @@
 -- What the refusal of a part is for the whole call.
-use Rattle.std.specs.Prelude.{◌≡◌, ◌≤◌, ◌||◌, ℕ, Bool, true, false, List, Option, Some}
+use Rattle.std.specs.Prelude.{◌≡◌, ◌≤◌, ℕ, Bool, true, false, List, Option, Some}
 use Rattle.std.proofs.Common.{refl, sym, ◌∙◌, subst, arith, inl, inr}
 use Rattle.dsm_base.specs.Causes.{Rose}
 use Rattle.dsm_check.specs.Programs.{Program}
@@ -113,23 +113,20 @@ module _ (files : Contents) (before after : ℕ) (program schedule : List ℕ) w
   abbrev flagged : Bool → Bool → Given
   flagged trace state = record { command = Some (run program schedule trace state); files = files; faults_before = before; faults_after = after }
 
-  -- with a flag it is refused
-  pub refused_flag : (trace state : Bool) (status : Status) → (trace || state) ≡ true → status ≡ Status.WordsRefused →
+  -- with `--state` it is refused
+  pub refused_state : (trace state : Bool) (status : Status) → state ≡ true → status ≡ Status.WordsRefused →
       RefusesOrMemory record { command = Some (run program schedule trace state); files = files; faults_before = before; faults_after = after } status
-  refused_flag true state status flag is = subst (RefusesOrMemory (flagged true state)) (sym is) refl
-  refused_flag false true status flag is = subst (RefusesOrMemory (flagged false true)) (sym is) refl
-  refused_flag false false status flag is = absurd (cc)
+  refused_state trace true status flag is = subst (RefusesOrMemory (flagged trace true)) (sym is) refl
+  refused_state trace false status flag is = absurd (cc)
 
-  -- without one it is refused as `run` is
-  pub refused_run : (trace state : Bool) (status : Status) → (trace || state) ≡ false → RefusesIn record { files = files; before = before; after = after } (λ given. RefusesRun given program schedule) status →
+  -- without it it is refused as `run` is
+  pub refused_run : (trace state : Bool) (status : Status) → state ≡ false → RefusesIn record { files = files; before = before; after = after } (λ given. RefusesRun given program schedule) status →
       RefusesOrMemory record { command = Some (run program schedule trace state); files = files; faults_before = before; faults_after = after } status
-  refused_run true state status flag is = absurd (cc)
-  refused_run false true status flag is = absurd (cc)
-  refused_run false false status flag is = is (flagged false false) (whole_part (Some (run program schedule false false)) files before after)
+  refused_run trace true status flag is = absurd (cc)
+  refused_run trace false status flag is = is (flagged trace false) (whole_part (Some (run program schedule trace false)) files before after)
 
 -- and it is prepared
-pub prepared_run : (files : Contents) (program schedule : List ℕ) (trace state : Bool) (prepared : SmallRun) → (trace || state) ≡ false → IsAccepted files program schedule prepared.program prepared.schedule.procs prepared.schedule.entries →
+pub prepared_run : (files : Contents) (program schedule : List ℕ) (trace state : Bool) (prepared : SmallRun) → state ≡ false → prepared.trace ≡ trace → IsAccepted files program schedule prepared.program prepared.schedule.procs prepared.schedule.entries →
     IsPrepared files (Some (run program schedule trace state)) (Prepared.Run prepared)
-prepared_run files program schedule true state prepared flag is = absurd (cc)
-prepared_run files program schedule false true prepared flag is = absurd (cc)
-prepared_run files program schedule false false prepared flag is = is
+prepared_run files program schedule trace true prepared flag same is = absurd (cc)
+prepared_run files program schedule trace false prepared flag same is = (same, is)

@@ -1,6 +1,6 @@
 -- What a run leaves.
-use Rattle.std.specs.Prelude.{◌≡◌, ◌≤◌, ℕ, List, [], length, take, reverse, Option, Result, Ok, Err, IfOk, IsTrue}
-use Rattle.std.proofs.Common.{refl, sym, ap, ◌∙◌, arith, subst}
+use Rattle.std.specs.Prelude.{◌≡◌, ◌≤◌, ℕ, Bool, List, [], ◌∷◌, ◌++◌, length, take, reverse, Option, Result, Ok, Err, IfOk, IsTrue}
+use Rattle.std.proofs.Common.{refl, sym, ap, ◌∙◌, arith, subst, inl, inr}
 use Rattle.dsm_base.specs.Causes.{Rose, IfFailed}
 use Rattle.dsm_base.specs.declared.errors.ReadErr.{ReadErr}
 use Rattle.dsm_base.specs.Sink.{appended, TakesPart}
@@ -27,12 +27,13 @@ use Rattle.dsm_network.specs.World.{setup_of, groups_of, units_of, net_of, endin
 use Rattle.dsm_top.specs.declared.status.Status.{Status}
 use Rattle.dsm_top.specs.Lawful.{IsLawful}
 use Rattle.dsm_top.specs.Ended.{Left, TakesFront, IsRun, Ran}
-use Rattle.dsm_top.specs.Runs.{SmallWorld, first_by, small_kind, first_in, IsMadeBy, FitsFirst, WroteCut}
+use Rattle.dsm_top.specs.Runs.{SmallWorld, first_by, small_kind, first_in, IsMadeBy, FitsFirst, WroteCut, WroteCutShowing}
+use Rattle.dsm_top.specs.Shown.{shown_by}
 use Rattle.dsm_top.specs.Statuses.{status_of_finished, status_of_write}
 use Rattle.dsm_top.proofs.Pieces.{appended-nil}
 use Rattle.dsm_top.proofs.Endings.{endings_are}
 use Rattle.dsm_top.proofs.Units.{all_front}
-use Rattle.dsm_top.proofs.Went.{went_through}
+use Rattle.dsm_top.proofs.Went.{went_showing}
 
 -- the laws of traces, for threads of small programs
 
@@ -68,7 +69,7 @@ module _ (program : SmallProgram) (procs : ℕ) (count : IsTrue (is_proc_count p
     lawful = law program (small_setup program procs count) (reverse (take units schedule)) trace fits (all_front (IsWithin (small_setup program procs count)) schedule units all_within);
   }
 
-  module _ (output : Output) (world : SmallWorld) (left : Left) (setup : setup_of world ≡ small_setup program procs count) (first : first_in world ≡ small_first program procs)
+  module _ (output : Output) (asked : Bool) (world : SmallWorld) (left : Left) (setup : setup_of world ≡ small_setup program procs count) (first : first_in world ≡ small_first program procs)
       (within : units_of world ≤ length schedule) (fits : FitsFirst world schedule) (trace : left.trace ≡ groups_of world) (units : left.units ≡ units_of world) where
     run : IsRun program procs count schedule left.units left.trace
     run =
@@ -84,9 +85,13 @@ module _ (program : SmallProgram) (procs : ℕ) (count : IsTrue (is_proc_count p
         output (setup_of world) (first_in world) (reverse (take (units_of world) schedule)) (groups_of world) fits
         ∙ ap (λ t. printed_lines (history t)) (sym trace)
 
+    -- with what was asked for behind it
+    shown : output_of (groups_of world) ++ shown_by asked (groups_of world) ≡ printed_lines (history left.trace) ++ shown_by asked left.trace
+    shown = (λ i. out i ++ shown_by asked (sym trace i))
+
     pub ran_whole : (own : OwnParts) (labels : OwnLabels) (made : IsMadeBy schedule world) (finished : Finished) (status : Status) →
         finished ≡ finished_by (setup_of world).procs (λ p. ending_at ((net_of small_kind first_by world).processors p)) → status ≡ status_of_finished finished →
-        units_of world ≡ length schedule → left.after ≡ appended left.before (output_of (groups_of world)) → Ran program procs schedule left status
+        units_of world ≡ length schedule → left.after ≡ appended left.before (output_of (groups_of world) ++ shown_by asked (groups_of world)) → Ran program procs schedule asked left status
     ran_whole own labels made finished status is named all wrote =
         let same : finished_by (setup_of world).procs (λ p. ending_at ((net_of small_kind first_by world).processors p)) ≡ finished_by (setup_of world).procs (endings_of (history (groups_of world))) =
         (λ i. finished_by (setup_of world).procs (λ p. world_endings own labels schedule world made p i)) in
@@ -95,36 +100,29 @@ module _ (program : SmallProgram) (procs : ℕ) (count : IsTrue (is_proc_count p
         record {
           count = count;
           is_run = run;
-          went = went_through (length schedule) (finished_by procs (endings_of (history left.trace))) finished (printed_lines (history left.trace)) left status stands named (units ∙ all)
-              (wrote ∙ ap (appended left.before) out);
+          went = went_showing (length schedule) (finished_by procs (endings_of (history left.trace))) finished (printed_lines (history left.trace)) (shown_by asked left.trace) left status stands named
+              (units ∙ all) (wrote ∙ ap (appended left.before) shown);
         }
 
-    ran_cut : TakesPart left.before left.after (output_of (groups_of world)) → Rose left.faults_before left.faults_after → Ran program procs schedule left Status.WriteFault
-    ran_cut part rose = record {
-      count = count;
-      is_run = run;
-      went = record { part = subst (TakesPart left.before left.after) out part; rose = rose };
-    }
-
-    ran_short : TakesFront left.before left.after (output_of (groups_of world)) → Ran program procs schedule left Status.Memory
-    ran_short front = record {
-      count = count;
-      is_run = run;
-      went = subst (TakesFront left.before left.after) out front;
-    }
-
     -- what the sink has where the run was cut short
-    pub cut_by : (error : ReadErr) → WroteCut left.before left.after (output_of (groups_of world)) error → IfFailed error (Rose left.faults_before left.faults_after) → Ran program procs schedule left (status_of_write error)
-    cut_by ReadErr.Failed cut rose = ran_cut cut rose
-    cut_by ReadErr.Memory cut rose = ran_short cut
+    pub cut_by : (error : ReadErr) → WroteCutShowing left.before left.after (output_of (groups_of world)) (shown_by asked (groups_of world)) (units_of world ≡ length schedule) error
+        → IfFailed error (Rose left.faults_before left.faults_after) → Ran program procs schedule asked left (status_of_write error)
+    cut_by ReadErr.Failed (inl part) rose =
+        record { count = count; is_run = run; went = inl record { part = subst (TakesPart left.before left.after) out part; rose = rose } }
+    cut_by ReadErr.Failed (inr behind) rose =
+        record { count = count; is_run = run; went = inr (units ∙ behind.0, record { part = subst (TakesPart left.before left.after) shown behind.1; rose = rose }) }
+    cut_by ReadErr.Memory (inl front) rose =
+        record { count = count; is_run = run; went = inl (subst (TakesFront left.before left.after) out front) }
+    cut_by ReadErr.Memory (inr behind) rose =
+        record { count = count; is_run = run; went = inr (units ∙ behind.0, subst (TakesPart left.before left.after) shown behind.1) }
 
   -- nothing was applied
-  pub ran_none : (before : Option (List ℕ)) (faults_before faults_after : ℕ) →
-      Ran program procs schedule record { before = before; after = before; faults_before = faults_before; faults_after = faults_after; trace = []; units = 0 } Status.Memory
-  ran_none before faults_before faults_after = record {
+  pub ran_none : (asked : Bool) (before : Option (List ℕ)) (faults_before faults_after : ℕ) →
+      Ran program procs schedule asked record { before = before; after = before; faults_before = faults_before; faults_after = faults_after; trace = []; units = 0 } Status.Memory
+  ran_none asked before faults_before faults_after = record {
     count = count;
     is_run = is_run 0 [] (omega (arith)) record { done = []; same_acts = refl; is_trace = refl };
-    went = record { count = 0; taken = sym (appended-nil before) };
+    went = inl record { count = 0; taken = sym (appended-nil before) };
   }
 
 -- what threads want is of the setup, whatever names it, the program and the number of processors have

@@ -1,5 +1,5 @@
 -- How a call ended, and what it left.
-use Rattle.std.specs.Prelude.{◌≡◌, ◌⊎◌, ℕ, ◌≤◌, false, List, [], ◌∷◌, ◌++◌, length, take, reverse, Option, Some, codes, IsTrue}
+use Rattle.std.specs.Prelude.{◌≡◌, ◌⊎◌, ℕ, ◌≤◌, Bool, false, List, [], ◌∷◌, ◌++◌, length, take, reverse, Option, Some, codes, IsTrue}
 use Rattle.dsm_base.specs.Causes.{Rose}
 use Rattle.dsm_base.specs.Output.{printed_lines}
 use Rattle.dsm_base.specs.Sink.{appended, TakesPart}
@@ -24,6 +24,7 @@ use Rattle.dsm_top.specs.declared.status.Status.{Status}
 use Rattle.dsm_top.specs.declared.status.Report.{Report}
 use Rattle.dsm_command.specs.Commands.{Command, run, check, plain}
 use Rattle.dsm_top.specs.Messages.{message_of}
+use Rattle.dsm_top.specs.Shown.{shown_by}
 use Rattle.dsm_top.specs.Statuses.{status_of_finished}
 use Rattle.dsm_top.specs.Lawful.{IsLawful}
 use Rattle.dsm_top.specs.Accepted.{IsAccepted, HasFitting, HasPicks}
@@ -101,6 +102,22 @@ Went units threads lines left Status.WriteFault = Cut left lines
 Went units threads lines left Status.Memory = Front left lines
 Went units threads lines left status = WentThrough units threads lines left status
 
+-- With what was asked for behind the lines.
+
+-- all units were applied, so many, and so it is of all that was to be written
+abbrev pub Behind : ℕ → Left → Type 0 → Type 0
+Behind units left Is = (left.units ≡ units) × Is
+
+-- it went through, and what was asked for is written too; or it was cut short, in its lines or behind
+-- them
+abbrev pub WentShowing : ℕ → Finished → List ℕ → List ℕ → Left → Status → Type 0
+WentShowing units threads lines shown left Status.WriteFault =
+    Cut left lines ⊎ Behind units left (Cut left (lines ++ shown))
+WentShowing units threads lines shown left Status.Memory =
+    Front left lines ⊎ Behind units left (Short left (lines ++ shown))
+WentShowing units threads lines shown left status =
+    WentThrough units threads (lines ++ shown) left status
+
 -- `run`.
 
 -- the trace of so many units of a schedule, which the program's threads, one a processor, have made
@@ -113,21 +130,22 @@ pub record IsRun (program : SmallProgram) (procs : ℕ) (count : IsTrue (is_proc
       (run_of (small_setup program procs count) (small_first program procs) small_semantics
       fits.done).net trace
 
--- what a run of a program by a schedule for so many processors leaves
-pub record Ran (program : SmallProgram) (procs : ℕ) (schedule : List Act) (left : Left)
+-- what a run of a program by a schedule for so many processors leaves, with or without its trace
+pub record Ran (program : SmallProgram) (procs : ℕ) (schedule : List Act) (trace : Bool) (left : Left)
     (status : Status) : Type 0 where
   pub count : IsTrue (is_proc_count procs)
   pub is_run : IsRun program procs count schedule left.units left.trace
-  pub went : Went (length schedule) (finished_by procs (endings_of (history left.trace)))
-      (printed_lines (history left.trace)) left status
+  pub went : WentShowing (length schedule) (finished_by procs (endings_of (history left.trace)))
+      (printed_lines (history left.trace)) (shown_by trace left.trace) left status
 
 -- `run`, with a program and a schedule that are accepted
-pub record EndedRun (given : Given) (program schedule : List ℕ) (left : Left) (status : Status) : Type 0 where
+pub record EndedRun (given : Given) (program schedule : List ℕ) (trace : Bool) (left : Left)
+    (status : Status) : Type 0 where
   pub small : SmallProgram
   pub procs : ℕ
   pub entries : List Entry
   pub accepted : IsAccepted given.files program schedule small procs entries
-  pub ran : Ran small procs (units_by procs entries) left status
+  pub ran : Ran small procs (units_by procs entries) trace left status
 
 -- `check`.
 
@@ -188,10 +206,10 @@ pub record Refused (given : Given) (left : Left) (status : Status) : Type 0 wher
 
 -- Any call.
 
--- what the command is for was done; `run` has no flags yet, and `load` isn't built
+-- what the command is for was done; `run` has no `--state` yet, and `load` isn't built
 abbrev pub EndedCommand : Given → Left → Status → Option Command → Type 0
-EndedCommand given left status (Some (run program schedule false false)) =
-    EndedRun given program schedule left status
+EndedCommand given left status (Some (run program schedule trace false)) =
+    EndedRun given program schedule trace left status
 EndedCommand given left status (Some (check program procs)) = EndedCheck given program procs left status
 EndedCommand given left status (Some (plain program picks)) = EndedPlain given program picks left status
 EndedCommand given left status _ = ⊥

@@ -1,5 +1,6 @@
 pub mod Command
 pub mod CommandInCode
+pub mod Shown
 pub mod Statuses
 pub mod Messages
 pub mod Accepted

@@ -62,8 +62,9 @@ IsReady (Prepared.Plain prepared) = CanPick prepared
 
 -- what a command names is accepted, and this stands ready for it
 abbrev pub IsPrepared : Contents → Option Command → Prepared → Type 0
-IsPrepared files (Some (run program schedule false false)) (Prepared.Run prepared) =
-    IsAccepted files program schedule prepared.program prepared.schedule.procs prepared.schedule.entries
+IsPrepared files (Some (run program schedule trace false)) (Prepared.Run prepared) =
+    (prepared.trace ≡ trace) × IsAccepted files program schedule
+    prepared.program prepared.schedule.procs prepared.schedule.entries
 IsPrepared files (Some (check program procs)) Prepared.Check =
     (found : Program) × HasFitting files program procs found
 IsPrepared files (Some (plain program picks)) (Prepared.Plain prepared) =

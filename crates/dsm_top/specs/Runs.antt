@@ -1,5 +1,5 @@
 -- Worlds of small programs, and what is written of them.
-use Rattle.std.specs.Prelude.{◌≡◌, ℕ, List, [], ◌∷◌, ◌++◌, take, reverse, Option}
+use Rattle.std.specs.Prelude.{◌≡◌, ◌⊎◌, ℕ, List, [], ◌∷◌, ◌++◌, take, reverse, Option}
 use Rattle.dsm_base.specs.declared.act.Act.{Act}
 use Rattle.dsm_base.specs.declared.errors.ReadErr.{ReadErr}
 use Rattle.dsm_base.specs.Sink.{TakesPart}
@@ -58,3 +58,10 @@ pub record IsSameRun (old new : SmallWorld) : Type 0 where
 abbrev pub WroteCut : Option (List ℕ) → Option (List ℕ) → List ℕ → ReadErr → Type 0
 WroteCut before after bytes ReadErr.Failed = TakesPart before after bytes
 WroteCut before after bytes ReadErr.Memory = TakesFront before after bytes
+
+-- so it is of the lines; or all units were applied, and a part was taken of the lines with what was
+-- asked for behind them
+abbrev pub WroteCutShowing : Option (List ℕ) → Option (List ℕ) → List ℕ → List ℕ → Type 0 →
+    ReadErr → Type 0
+WroteCutShowing before after lines shown AllApplied error =
+    WroteCut before after lines error ⊎ (AllApplied × TakesPart before after (lines ++ shown))

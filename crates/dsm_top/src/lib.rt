@@ -10,6 +10,7 @@ mod plain;
 mod prepare;
 mod program;
 mod run;
+mod shown;
 mod status;
 mod tool;
 

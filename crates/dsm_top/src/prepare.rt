@@ -1,6 +1,6 @@
 //! What stands before a run: programs, schedules and lists of picks from their files.
 
-ghost use Rattle.std.specs.Prelude.{◌≡◌, ◌||◌, true, false, Some, Ok, string_bytes, IfOk, IfErr, MatchResult};
+ghost use Rattle.std.specs.Prelude.{◌≡◌, true, false, Some, Ok, string_bytes, IfOk, IfErr, MatchResult};
 ghost use Rattle.dsm_check.specs.CheckedViews.{program_of};
 ghost use Rattle.dsm_check.specs.Setups.{fitting};
 ghost use Rattle.dsm_top.specs.Accepted.{IsText, IsProgramText, IsChecked, HasSchedule, IsAccepted, HasFitting, HasPicks};
@@ -23,6 +23,8 @@ use std::alloc::Global;
 pub(crate) struct SmallRun {
     pub program: SmallProgram,
     pub schedule: Schedule,
+    /// Whether the trace's text is asked for.
+    pub trace: bool,
 }
 
 /// A program and a list of picks that are accepted.
@@ -124,12 +126,12 @@ fn test_owners(program: &Checked, procs: u8) -> Result<(), Status>
     fit(program, procs).map_err(Status::ProgramRefused)
 }
 
-/// `run` has no flag that is built yet.
-fn test_flags(trace: bool, state: bool) -> Result<(), Status>
-    ensures { MatchResult result (λ _. (trace || state) ≡ false)
-        (λ status. ((trace || state) ≡ true) × (status ≡ Status.WordsRefused)) }
+/// The state's text isn't built yet.
+fn test_state(state: bool) -> Result<(), Status>
+    ensures { MatchResult result (λ _. state ≡ false)
+        (λ status. (state ≡ true) × (status ≡ Status.WordsRefused)) }
 {
-    if trace || state {
+    if state {
         return Err(Status::WordsRefused);
     }
     Ok(())
@@ -141,8 +143,10 @@ fn prepare_run<F: Files>(
     alloc: Global,
     program: &String,
     schedule: &String,
+    trace: bool,
     files: &mut F,
 ) -> Result<SmallRun, Status>
+    ensures trace { IfOk result (λ prepared. prepared.trace ≡ trace) }
     ensures accepted { IfOk result (λ prepared. IsAccepted (F.files_hold files.old)
         (string_bytes program.now) (string_bytes schedule.now)
         prepared.program prepared.schedule.procs prepared.schedule.entries) }
@@ -154,7 +158,11 @@ fn prepare_run<F: Files>(
     let schedule = schedule_of(alloc, schedule, files)?;
     test_owners(&found.program, schedule.procs)?;
     let program = read_program(alloc, found.text.as_slice())?;
-    Ok(SmallRun { program, schedule })
+    Ok(SmallRun {
+        program,
+        schedule,
+        trace,
+    })
 }
 
 /// Reads the program of `check`, and tests its owners.
@@ -199,7 +207,8 @@ fn prepare_plain<F: Files>(
     })
 }
 
-/// Reads what a command names. `WordsRefused` for one that isn't built yet: `run` with a flag, and `load`.
+/// Reads what a command names. `WordsRefused` for one that isn't built yet: `run` with `--state`, and
+/// `load`.
 pub(crate) fn prepare<F: Files>(
     alloc: Global,
     command: &Command,
@@ -219,8 +228,8 @@ pub(crate) fn prepare<F: Files>(
             trace,
             state,
         } => {
-            test_flags(*trace, *state)?;
-            Ok(Prepared::Run(prepare_run(alloc, program, schedule, files)?))
+            test_state(*state)?;
+            Ok(Prepared::Run(prepare_run(alloc, program, schedule, *trace, files)?))
         }
         Command::Check { program, procs } => {
             prepare_check(alloc, program, *procs, files)?;

@@ -1,6 +1,6 @@
 //! The run of a program by a schedule.
 
-ghost use Rattle.std.specs.Prelude.{◌≡◌, ◌≤◌, List, [], length, IfOk, OnOk, IfErr, IsTrue};
+ghost use Rattle.std.specs.Prelude.{◌≡◌, ◌≤◌, ◌++◌, List, [], length, IfOk, OnOk, IfErr, IsTrue};
 ghost use Rattle.dsm_base.specs.Causes.{HasCause};
 ghost use Rattle.dsm_base.specs.Setups.{is_proc_count};
 ghost use Rattle.dsm_base.specs.Sink.{appended};
@@ -17,10 +17,12 @@ ghost use Rattle.dsm_small.specs.Meaning.{small_first, small_semantics};
 ghost use Rattle.dsm_top.specs.Lawful.{IsLawful};
 ghost use Rattle.dsm_small.specs.Setups.{small_setup};
 ghost use Rattle.dsm_top.specs.Ended.{left_by, Ran};
-ghost use Rattle.dsm_top.specs.Runs.{IsWholeWorld, small_kind, first_by, first_in, IsMadeBy, FitsFirst, IsSameRun, WroteCut};
+ghost use Rattle.dsm_top.specs.Runs.{IsWholeWorld, small_kind, first_by, first_in, IsMadeBy, FitsFirst, IsSameRun, WroteCut, WroteCutShowing};
+ghost use Rattle.dsm_top.specs.Shown.{shown_by};
 
 use crate::lines::put_lines;
 use crate::prepare::SmallRun;
+use crate::shown::put_shown;
 use crate::status::{Report, Status};
 use dsm_base::{MemFault, ReadErr, Sink};
 use dsm_laws_history::{
@@ -64,6 +66,36 @@ pub(crate) fn apply_units<K: Sink>(
     Ok(())
 }
 
+/// Applies the units of a schedule to a world that has had none, and puts what was asked for behind
+/// their lines. After an error a part of all that is put, or out of memory a front of the lines.
+fn go_through<K: Sink>(
+    alloc: Global,
+    world: &mut World<SmallMaker>,
+    schedule: &Schedule,
+    trace: bool,
+    out: &mut K,
+) -> Result<(), ReadErr>
+    requires whole { IsWholeWorld world.old }
+    requires none { IsRunOf small_kind first_by [] world.old }
+    requires no_trace { groups_of world.old ≡ [] }
+    requires procs { (setup_of world.old).procs ≡ schedule.now.procs }
+    ensures same { IsSameRun world.old world.new }
+    ensures whole { OnOk result (IsWholeWorld world.new) }
+    ensures count { units_of world.new ≤ length (acts_of schedule.now) }
+    ensures all { OnOk result (units_of world.new ≡ length (acts_of schedule.now)) }
+    ensures made { OnOk result (IsMadeBy (acts_of schedule.now) world.new) }
+    ensures fits { FitsFirst world.new (acts_of schedule.now) }
+    ensures wrote { OnOk result (K.sink_holds out.new ≡ appended (K.sink_holds out.old)
+        (output_of (groups_of world.new) ++ shown_by trace (groups_of world.new))) }
+    ensures cut { IfErr result (WroteCutShowing (K.sink_holds out.old) (K.sink_holds out.new)
+        (output_of (groups_of world.new)) (shown_by trace (groups_of world.new))
+        (units_of world.new ≡ length (acts_of schedule.now))) }
+    ensures cause { HasCause (K.sink_faults out.old) (K.sink_faults out.new) result }
+{
+    apply_units(world, schedule, out)?;
+    put_shown(alloc, trace, world.trace(), out)
+}
+
 /// The world of a program before its first unit.
 fn start(alloc: Global, program: SmallProgram, procs: u8) -> Result<World<SmallMaker>, MemFault>
     requires { IsTrue (is_proc_count procs) }
@@ -101,10 +133,10 @@ fn laws()
     nobody_waits_in_vain::<SmallThread>();
 }
 
-/// Runs a program by a schedule.
+/// Runs a program by a schedule, and puts its trace where that is asked for.
 pub(crate) fn run<K: Sink>(alloc: Global, prepared: SmallRun, out: &mut K) -> Report
     ensures { Ran prepared.program prepared.schedule.procs (acts_of prepared.schedule)
-        (left_by K.sink_holds K.sink_faults out.old out.new result) result.status }
+        prepared.trace (left_by K.sink_holds K.sink_faults out.old out.new result) result.status }
 {
     laws();
     output::<SmallThread>();
@@ -112,7 +144,7 @@ pub(crate) fn run<K: Sink>(alloc: Global, prepared: SmallRun, out: &mut K) -> Re
     let Ok(mut world) = start(alloc, prepared.program, prepared.schedule.procs) else {
         return Report::untraced(alloc, Status::Memory, 0);
     };
-    let status = match apply_units(&mut world, &prepared.schedule, out) {
+    let status = match go_through(alloc, &mut world, &prepared.schedule, prepared.trace, out) {
         Ok(()) => Status::from(world.finished()),
         Err(error) => Status::from(error),
     };

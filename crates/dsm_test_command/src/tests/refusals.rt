@@ -49,7 +49,7 @@ fn refusals_come_in_their_order(rt: HostRuntime) -> Result<(), Fail> {
             written: "dsm: words refused\n",
         },
         Called {
-            words: "run prog other --trace",
+            words: "run prog other --state",
             program: ADDER,
             other: FIRST,
             status: 5,
@@ -294,6 +294,18 @@ fn failures_leave_a_part(rt: HostRuntime) -> Result<(), Fail> {
             },
             kind: CallKind::Put,
             nth: 2,
+        },
+        Failed {
+            call: Called {
+                words: "run prog other --trace",
+                program: ADDER,
+                other: FIRST,
+                status: 7,
+                units: 21,
+                written: "P0: x=1\nP1: x=12\n",
+            },
+            kind: CallKind::Put,
+            nth: 3,
         },
         Failed {
             call: Called {

@@ -94,6 +94,37 @@ fn runs_print_their_lines(rt: HostRuntime) -> Result<(), Fail> {
 }
 
 #[test]
+fn a_trace_comes_behind_the_lines(rt: HostRuntime) -> Result<(), Fail> {
+    const TABLE: &[Called] = &[
+        Called {
+            words: "run prog other --trace",
+            program: NOTHING,
+            other: "procs 2\ndeliver 0 1\nfinish 1\n",
+            status: 0,
+            units: 5,
+            written: "--\nunit 2\nturn 0 1 end\nunit 4\nturn 1 1 end\n",
+        },
+        Called {
+            words: "run --trace prog other",
+            program: ADDER,
+            other: "procs 2\nstep 0 8\nstep 1\ndeliver 1 0\n",
+            status: 2,
+            units: 10,
+            written: "P0: x=1\n--\nunit 1\nturn 0 1 ask 0 excl\nunit 2\nturn 0 2 take 0 excl 0 lines\nunit 3\nturn 0 3 load 0 0\nunit 4\nturn 0 4 store 0 1\nunit 5\nturn 0 5 load 0 1\nunit 6\nturn 0 6 line x=1\nout 0 6\nunit 7\nturn 0 7 give 0\nunit 8\nturn 0 8 end\nunit 9\nturn 1 1 ask 0 excl\nsent 1 1 0 req 0 excl 0\nunit 10\ndelivered 1\nsent 2 0 1 grant 0 excl 1 lines 0\n",
+        },
+        Called {
+            words: "run prog other --trace",
+            program: ADDER,
+            other: "procs 2\n",
+            status: 2,
+            units: 0,
+            written: "--\n",
+        },
+    ];
+    are_right(&rt, rt.alloc(), TABLE)
+}
+
+#[test]
 fn schedules_are_refused(rt: HostRuntime) -> Result<(), Fail> {
     const TABLE: &[Called] = &[
         Called {

@@ -5,40 +5,40 @@ use Rattle.dsm_small.specs.Setups.{small_setup}
 use Rattle.dsm_top.specs.Ended.{Left}
 use Rattle.dsm_top.proofs.Runs.{ran_none, ran_whole, cut_by}
 use Rattle.dsm_top.proofs.Schedules.{some_procs, all_within}
-use Rattle.dsm_top.proofs.run.run.Goals.{in-Ok-apply_units, in-Err}
+use Rattle.dsm_top.proofs.run.run.Goals.{in-Ok-go_through, in-Err}
 use Rattle.dsm_top.proofs.run.run.Goals as goal
 
 pub start-requires : goal.start-requires
 start-requires g c = some_procs c.args.prepared.schedule
 
-pub apply_units-requires-clause-procs : goal.apply_units-requires-clause-procs
-apply_units-requires-clause-procs g c = ap (λ (s : Setup). s.procs) (c.in-Ok.ensures.setup (some_procs c.args.prepared.schedule))
+pub go_through-requires-clause-procs : goal.go_through-requires-clause-procs
+go_through-requires-clause-procs g c = ap (λ (s : Setup). s.procs) (c.in-Ok.ensures.setup (some_procs c.args.prepared.schedule))
 
 pub returns : goal.returns
 returns g c =
     let program = c.args.prepared.program in
     let schedule = acts_of c.args.prepared.schedule in
-    let world = c.apply_units.new.world in
+    let world = c.go_through.new.world in
     let procs = c.args.prepared.schedule.procs in
     let count = some_procs c.args.prepared.schedule in
-    let setup = c.apply_units.ensures.same.setup ∙ c.in-Ok.ensures.setup count in
-    let first = c.apply_units.ensures.same.first ∙ c.in-Ok.ensures.first in
+    let setup = c.go_through.ensures.same.setup ∙ c.in-Ok.ensures.setup count in
+    let first = c.go_through.ensures.same.first ∙ c.in-Ok.ensures.first in
     let units_within = all_within (small_setup program procs count) c.args.prepared.schedule refl in
     let left : Left = record {
       before = g.K.Sink.sink_holds c.args.out.now;
-      after = g.K.Sink.sink_holds c.apply_units.new.out;
+      after = g.K.Sink.sink_holds c.go_through.new.out;
       faults_before = g.K.Sink.sink_faults c.args.out.now;
-      faults_after = g.K.Sink.sink_faults c.apply_units.new.out;
+      faults_after = g.K.Sink.sink_faults c.go_through.new.out;
       trace = reverse c.into_trace.result;
       units = c.units-units.result;
     } in
-    elim c.match-apply_units.branch [
-      | in-Ok-apply_units w ↦
+    elim c.match-go_through.branch [
+      | in-Ok-go_through w ↦
           rw (w.status-is)
-          (ran_whole program procs count schedule c.laws.ensures units_within c.output.ensures world left setup first c.apply_units.ensures.count c.apply_units.ensures.fits c.into_trace.ensures c.units-units.ensures c.own_parts.ensures.own c.own_parts.ensures.labels w.in-Ok-apply_units.ensures.made w.finished.result w.from-status.result w.finished.ensures
-          w.from-status.ensures w.in-Ok-apply_units.ensures.all w.in-Ok-apply_units.ensures.wrote)
+          (ran_whole program procs count schedule c.laws.ensures units_within c.output.ensures c.args.prepared.trace world left setup first c.go_through.ensures.count c.go_through.ensures.fits c.into_trace.ensures c.units-units.ensures c.own_parts.ensures.own c.own_parts.ensures.labels w.in-Ok-go_through.ensures.made w.finished.result w.from-status.result w.finished.ensures
+          w.from-status.ensures w.in-Ok-go_through.ensures.all w.in-Ok-go_through.ensures.wrote)
       | in-Err w ↦ rw (w.status-is, w.from-status-in-Err.ensures)
-          (cut_by program procs count schedule c.laws.ensures units_within c.output.ensures world left setup first c.apply_units.ensures.count c.apply_units.ensures.fits c.into_trace.ensures c.units-units.ensures w.in-Err.error w.in-Err.ensures.cut w.in-Err.ensures.cause.rose)
+          (cut_by program procs count schedule c.laws.ensures units_within c.output.ensures c.args.prepared.trace world left setup first c.go_through.ensures.count c.go_through.ensures.fits c.into_trace.ensures c.units-units.ensures w.in-Err.error w.in-Err.ensures.cut w.in-Err.ensures.cause.rose)
     ]
 
 pub returns-in_default : goal.returns-in_default
@@ -48,4 +48,4 @@ returns-in_default g c =
     let count = some_procs schedule in
     let units_within = all_within (small_setup program schedule.procs count) schedule refl in
     rw (c.untraced.ensures)
-    (ran_none program schedule.procs count (acts_of schedule) c.laws.ensures units_within (g.K.Sink.sink_holds c.args.out.now) (g.K.Sink.sink_faults c.args.out.now) (g.K.Sink.sink_faults c.args.out.now))
+    (ran_none program schedule.procs count (acts_of schedule) c.laws.ensures units_within c.args.prepared.trace (g.K.Sink.sink_holds c.args.out.now) (g.K.Sink.sink_faults c.args.out.now) (g.K.Sink.sink_faults c.args.out.now))
