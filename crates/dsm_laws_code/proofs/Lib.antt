@@ -1,0 +1,10 @@
+pub mod Places
+pub mod Standing
+pub mod Answering
+pub mod Operands
+pub mod Singles
+pub mod Composites
+pub mod Lists
+pub mod Sequences
+pub mod Calls
+pub mod Running
