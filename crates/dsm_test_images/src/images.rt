@@ -160,6 +160,11 @@ fn a_length_that_does_not_fit_is_told_at_4(rt: HostRuntime) -> Result<(), Fail> 
         let answer = read_image(rt.alloc(), bytes, &setup).err();
         assert_eq!(rt; answer, Some(LoadErr::BadImage { place: 4 }));
     }
+    let mut front = FRONT;
+    front[4..8].copy_from_slice(&[255; 4]);
+    let bytes = with_digest(rt.alloc(), front.as_slice(), DIGEST.as_slice(), 171)?;
+    let answer = read_image(rt.alloc(), bytes.as_slice(), &setup).err();
+    assert_eq!(rt; answer, Some(LoadErr::BadImage { place: 4 }));
     Ok(())
 }
 
