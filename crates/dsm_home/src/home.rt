@@ -1,6 +1,7 @@
 //! The locks that a processor is home of.
 
-ghost use Rattle.std.specs.Prelude.{◌≡◌, ◌<◌, length, replicate, IfOk, OnOk};
+ghost use Rattle.std.specs.Prelude.{◌≡◌, ◌<◌, length, map, replicate, IfOk, OnOk};
+ghost use Rattle.dsm_lines.specs.Places.{cells_in};
 ghost use Rattle.dsm_lines.specs.Copies.{AreNumbered, newer_lines};
 ghost use Rattle.dsm_home.specs.LockStates.{start_lock, grants_of, lock_with_request, lock_after_release, mode_among, waits_for};
 ghost use Rattle.dsm_home.specs.HomeStates.{start_home, home_after_ask, home_after_give};
@@ -83,6 +84,13 @@ impl Home {
         ensures { IfOk result (λ lines. lines ≡ newer_lines (home_pieces self.now) (home_state self.now).stamps (home_state self.now).values lock version) }
     {
         self.lines.newer(self.alloc, lock, version)
+    }
+
+    /// The values of a line's cells; none where there is no such line.
+    pub fn values(&self, line: u32) -> &[i64]
+        ensures { result.now ≡ map (home_state self.now).values (cells_in (home_pieces self.now) line) }
+    {
+        self.lines.values(line)
     }
 
     /// Someone asks for a lock. Answers whose requests are granted now, in order. `MemFault` comes out of

@@ -1,6 +1,6 @@
 //! The world.
 
-ghost use Rattle.std.specs.Prelude.{◌≡◌, ◌+◌, ◌<◌, ◌∷◌, ℕ, List, [], IfOk, OnOk, OnErr, reverse};
+ghost use Rattle.std.specs.Prelude.{◌≡◌, ◌+◌, ◌<◌, ◌∷◌, ℕ, List, [], Some, IfOk, OnOk, OnErr, reverse};
 ghost use Rattle.dsm_base.specs.Endings.{finished_by};
 ghost use Rattle.dsm_base.specs.Threads.{StaysWithin};
 ghost use Rattle.dsm_net.specs.Fits.{with_unit};
@@ -8,7 +8,9 @@ ghost use Rattle.dsm_net.specs.Fits.{with_unit};
 mod unit;
 
 use crate::nodes::{all_ended, all_over, start_nodes};
-use dsm_base::{Act, Finished, MemFault, Numbers, PrintedLines, Setup, TaskMaker, finished_where};
+use dsm_base::{
+    Act, Finished, MemFault, Numbers, PrintedLines, Proc, Setup, TaskMaker, finished_where,
+};
 use dsm_channels::Channels;
 use dsm_lines::BindTable;
 use dsm_net::{Group, Records};
@@ -48,6 +50,8 @@ impl<M: TaskMaker> World<M> {
     ghost use Rattle.dsm_net.specs.Fits.{Done, IsWithin};
     ghost use Rattle.dsm_net.specs.Units.{unit_of, went};
     ghost use Rattle.dsm_records.specs.Outputs.{lines_of};
+    ghost use Rattle.dsm_processor.specs.Node.{processor_of};
+    ghost use Rattle.dsm_network.specs.Nodes.{IsNodeOf};
     ghost use Rattle.dsm_network.specs.World.{setup_of, first_of, groups_of, units_of, net_of, records_of, ending_at, IsRunOf, IsWhole};
 
     /// All processors before their first turns. `MemFault` comes out of memory.
@@ -134,5 +138,22 @@ impl<M: TaskMaker> World<M> {
             (λ p. ending_at ((net_of M.Made.kind M.first self.now).processors p)) }
     {
         finished_where(all_ended(&self.nodes), all_over(&self.nodes))
+    }
+    /// How the world is set up.
+    pub fn setup(&self) -> &Setup
+        ensures { result.now ≡ setup_of self.now }
+    {
+        &self.setup
+    }
+
+    /// A processor.
+    pub fn node(&self, proc: Proc) -> &Node<M::Made>
+        requires whole { IsWhole M.Made.kind M.first self.now }
+        requires proc { proc.0 < (setup_of self.now).procs }
+        ensures node { IsNodeOf M.Made.kind (setup_of self.now) proc.0 result.now }
+        ensures processor { (net_of M.Made.kind M.first self.now).processors proc.0 ≡
+            Some (processor_of M.Made.kind result.now) }
+    {
+        &self.nodes[usize::from(proc.0)]
     }
 }

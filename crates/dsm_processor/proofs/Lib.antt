@@ -11,3 +11,4 @@ pub mod Turns
 pub mod Plain
 pub mod Start
 pub mod Steps
+pub mod Values

@@ -10,7 +10,7 @@ use crate::mailbox::Mailbox;
 use crate::peers::Peers;
 use crate::versions::zero_versions;
 use dsm_barrier::Manager;
-use dsm_base::{Ending, Label, MemFault, Numbers, Pending, Proc, Rights, Setup, Task};
+use dsm_base::{Cell, Ending, Label, Lock, MemFault, Numbers, Pending, Proc, Rights, Setup, Task};
 use dsm_home::Home;
 use dsm_lines::{BindTable, LineList, OwnCopy};
 use dsm_msg::{Msg, Sends};
@@ -61,7 +61,7 @@ pub struct Node<T: Task> {
 impl<T: Task> Node<T> {
     ghost use Rattle.dsm_base.specs.Threads.{StaysWithin};
     ghost use Rattle.dsm_net.specs.Processor.{start_processor};
-    ghost use Rattle.dsm_processor.specs.Node.{processor_of, setup_of, me_of, IsWhole};
+    ghost use Rattle.dsm_processor.specs.Node.{processor_of, setup_of, me_of, IsShaped, IsWhole};
 
     /// A processor before its first turn. `MemFault` comes out of memory.
     pub fn start(
@@ -118,5 +118,24 @@ impl<T: Task> Node<T> {
         ensures { result ≡ (processor_of T.kind self.now).own.ending }
     {
         self.ending
+    }
+    /// The version that a lock has at its desk here.
+    pub fn lock_version(&self, lock: Lock) -> u32
+        requires shape { IsShaped self.now }
+        requires lock { lock.0 < (setup_of self.now).locks }
+        ensures { result ≡ ((processor_of T.kind self.now).locks lock.0).version }
+    {
+        self.home.version(lock)
+    }
+
+    /// The value of a cell in the lines of the locks that it is home of; 0 where the cell is in no piece.
+    pub fn home_value(&self, cell: Cell) -> i64
+        requires { IsShaped self.now }
+        ensures { result ≡ (processor_of T.kind self.now).lines.values cell.0 }
+    {
+        match self.table.place_of(cell) {
+            Some(place) => self.home.values(place.line)[usize::from(place.at)],
+            None => 0,
+        }
     }
 }
