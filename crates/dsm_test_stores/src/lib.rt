@@ -6,4 +6,6 @@ mod fronts;
 #[cfg(test)]
 mod host;
 #[cfg(test)]
+mod memory;
+#[cfg(test)]
 mod savers;
