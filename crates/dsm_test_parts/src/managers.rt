@@ -2,7 +2,7 @@
 
 ghost use Rattle.std.specs.Prelude.{◌≡◌, ◌<◌, ◌≤◌, true, IfOk};
 ghost use Rattle.dsm_lines.specs.LineLists.{are_lines};
-ghost use Rattle.dsm_test_barriers.specs.Three.{IsOfThree};
+ghost use Rattle.dsm_test_parts.specs.Three.{IsOfThree};
 
 use dsm_barrier::Manager;
 use dsm_base::{Bar, MemFault, Proc, Setup};
