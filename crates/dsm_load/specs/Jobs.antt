@@ -34,7 +34,7 @@ drawn_entries seed from count = map (λ k. once (act_of (drawn seed k))) (range_
 abbrev pub victim : ℕ → Proc
 victim seed = record { 0 = seed % 4 }
 
--- 40,000 drawn entries, a crash and a restart between them, and rounds until all is done
+-- 40,000 drawn entries, a crash before the 20,000th and a restart before the 20,050th, counted from 0, and rounds until all is done
 abbrev pub job_of : ℕ → List Entry
 job_of seed =
     drawn_entries seed 0 20000

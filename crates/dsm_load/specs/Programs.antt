@@ -60,6 +60,6 @@ closing =
     ++ codes "  return 0;\n"
     ++ codes "}\n"
 
--- a program of accounts that processors move money between, by a number that stands at two places of it
+-- the program: its number stands at two places of it, in decimal
 abbrev pub program_of : ℕ → List ℕ
 program_of seed = opening ++ (decimal seed ++ (middle ++ (decimal seed ++ closing)))
