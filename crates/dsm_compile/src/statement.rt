@@ -220,7 +220,7 @@ impl Writer<'_> {
     }
 
     #[cycle(statement)]
-    fn when(&mut self, exits: Exits, test: &Expression, body: &Statement) -> Result<(), MemFault>
+    fn when(&mut self, exits: Exits, body: &Statement, test: &Expression) -> Result<(), MemFault>
         ensures { OnOk result (self.new ≡ with_statement (exits_of exits)
             (r.when (view test.now) (view_statement body.now)) self.old) }
     {
@@ -283,7 +283,7 @@ impl Writer<'_> {
             Statement::Empty => Ok(()),
             Statement::Variables(variables) => self.variables(variables.as_slice()),
             Statement::Expression(e) => self.effect(e),
-            Statement::If(test, body) => self.when(exits, test, body),
+            Statement::If(test, body) => self.when(exits, body, test),
             Statement::IfElse(test, body, other) => {
                 let after = self.len();
                 self.statement(exits, other)?;

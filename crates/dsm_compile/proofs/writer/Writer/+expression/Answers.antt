@@ -1,4 +1,4 @@
-use Rattle.std.proofs.Common.{◌≡◌, ◌∙◌, ap, rules, subst}
+use Rattle.std.proofs.Common.{◌≡◌, ◌+◌, ◌-◌, drop, ◌∙◌, ap, rules, subst, arith}
 use Rattle.std.specs.Prelude.{OnOk}
 use Rattle.dsm_check.specs.Views.{view, views}
 use Rattle.dsm_check.specs.Resolved as r
@@ -6,7 +6,8 @@ use Rattle.dsm_check.proofs.Shown.{view_call}
 use Rattle.dsm_code.specs.declared.instruction.Instr.{Instr}
 use Rattle.dsm_laws_code.specs.Expressions.{expression_code, arguments_code}
 use Rattle.dsm_compile.proofs.Shown.{counted}
-use Rattle.dsm_compile.proofs.Writing.{ands_made, firsts_made, calls_made}
+use Rattle.dsm_compile.specs.Drafts.{with_code}
+use Rattle.dsm_compile.proofs.Writing.{ands_made, firsts_made, calls_made, next_argument}
 use Rattle.dsm_compile.proofs.writer.Writer.+expression.Goals as goal
 
 -- a call shows the arguments that lie in its vector
@@ -40,4 +41,13 @@ call-returns t c =
     c.arguments.ensures
 
 pub arguments-loop-at-preserved : goal.arguments-loop-at-preserved
-arguments-loop-at-preserved t c = ?
+arguments-loop-at-preserved t c =
+    let all = c.args.arguments.now in
+    let d = c.args.self.now in
+    let at = c.loop-at.at in
+    let one = c.index-arguments-at in
+    let behind : c.loop-at.self ≡ with_code (arguments_code d.pieces (c.args.depth + at) (views (drop at all))) d = c.loop-at.invariant in
+    let depth : c.in_ok-sum.field-0 ≡ c.args.depth + (at - 1) = c.in_ok-sum.ensures ∙ ap (λ n. c.args.depth + n) c.in_ok-small.ensures in
+    c.in_ok-expression.ensures
+    ∙ (λ i. with_code (expression_code (behind i).pieces (depth i) (view (one.is i))) (behind i))
+    ∙ next_argument c.args.depth at one.result all d (omega arith) (omega arith)
