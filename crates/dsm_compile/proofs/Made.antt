@@ -49,7 +49,7 @@ pub loops_made : (exits : Exits) (test step : Option r.Expression) (s : r.Statem
     → more ≡ steps + 1 → exits ≡ record { loop = more; body = 0 } → three ≡ with_statement exits s two
     → ((part rest : List Row) → three.rows ≡ part ++ rest → length rest ≡ after → four ≡ with_code (test_code three.pieces test (length part)) three) → Counts four behind round
     → ((part rest : List Row) → length rest ≡ after → four ≡ with_code (part ++ (row 0 (Instr.GoBack 0) ∷ [])) (record four { rows = rest })
-      → five ≡ with_code (part ++ (row 0 (Instr.GoBack round) ∷ [])) (record four { rows = rest }))
+    → five ≡ with_code (part ++ (row 0 (Instr.GoBack round) ∷ [])) (record four { rows = rest }))
     → five ≡ record {
       pieces = d.pieces;
       rows = loop_code d.pieces test (statement_code d.pieces (loop_exits (option_code d.pieces step)) (length d.prints) s) (option_code d.pieces step) ++ d.rows;

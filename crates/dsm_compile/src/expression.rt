@@ -223,7 +223,8 @@ impl Writer<'_> {
         ensures { (second rest : List DeclaredRow) → self.old.rows ≡ second ++ rest →
             length rest ≡ after → OnOk result (self.new ≡ record self.old {
               rows = chosen_code (depth + 1) (depth + 1)
-                  (expression_code self.old.pieces depth (view e.now)) second ++ rest }) }
+                  (expression_code self.old.pieces depth (view e.now)) second ++ rest;
+            }) }
     {
         let tested = sum(depth, 1)?;
         let second = self.count_since(after)?;

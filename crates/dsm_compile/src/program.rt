@@ -96,7 +96,8 @@ impl Writer<'_> {
         ensures value { IfOk result (λ made. code.function_of made ≡
             function_code self.old.pieces (length self.old.prints) (view_function function.now)) }
         ensures prints { IfOk result (λ made. self.new ≡ record self.old {
-            prints = self.old.prints ++ statements_prints (view_function function.now).body }) }
+          prints = self.old.prints ++ statements_prints (view_function function.now).body;
+        }) }
     {
         let no_exits = Exits {
             after_loop: 0,
@@ -121,7 +122,8 @@ impl Writer<'_> {
             functions_code self.old.pieces (length self.old.prints)
             (map view_function functions.now)) }
         ensures prints { IfOk result (λ made. self.new ≡ record self.old {
-            prints = self.old.prints ++ functions_prints (map view_function functions.now) }) }
+          prints = self.old.prints ++ functions_prints (map view_function functions.now);
+        }) }
     {
         let mut made = Vec::new(self.alloc());
         for function in functions {

@@ -138,7 +138,10 @@ impl Writer<'_> {
         ensures { (exits : Leading) → OnOk result (self.new ≡
             with_statement exits (r.release (view_lock lock.now)) self.old) }
     {
-        self.put(lock_depth(lock), Instr::Give(lock_target(lock), lock_line(lock)))?;
+        self.put(
+            lock_depth(lock),
+            Instr::Give(lock_target(lock), lock_line(lock)),
+        )?;
         self.reach_lock(lock)
     }
 
@@ -197,7 +200,7 @@ impl Writer<'_> {
         ensures { OnOk result (self.new ≡
             (let third = option_code self.old.pieces (borrowed step.entry) in
             let code = statement_code self.old.pieces (loop_exits third)
-                (length self.old.prints) (view_statement body.now) in
+            (length self.old.prints) (view_statement body.now) in
             record self.old {
               rows = loop_code self.old.pieces (borrowed test.entry) code third
                   ++ self.old.rows;
@@ -208,8 +211,9 @@ impl Writer<'_> {
         self.put(0, Instr::GoBack(0))?;
         let behind = self.len();
         self.optional_effect(step)?;
+        let third = self.count_since(behind)?;
         let exits = Exits {
-            after_loop: sum(self.count_since(behind)?, 1)?,
+            after_loop: sum(third, 1)?,
             after_body: 0,
         };
         self.statement(exits, body)?;
@@ -234,16 +238,11 @@ impl Writer<'_> {
     /// The part of an `if` with an `else`, of which what was written since there were so many instructions
     /// is the other part.
     #[cycle(statement)]
-    fn first_part(
-        &mut self,
-        exits: Exits,
-        after: usize,
-        body: &Statement,
-    ) -> Result<(), MemFault>
+    fn first_part(&mut self, exits: Exits, after: usize, body: &Statement) -> Result<(), MemFault>
         ensures { (other rest : List DeclaredRow) → self.old.rows ≡ other ++ rest →
             length rest ≡ after → OnOk result (self.new ≡
             (let one = statement_code self.old.pieces (before (length other + 1) (exits_of exits))
-                (length self.old.prints) (view_statement body.now) in
+            (length self.old.prints) (view_statement body.now) in
             record self.old {
               rows = chosen_code 1 0 one other ++ rest;
               prints = self.old.prints ++ statement_prints (view_statement body.now);

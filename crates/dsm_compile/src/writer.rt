@@ -75,9 +75,10 @@ impl<'a> Model for Writer<'a> {
     ghost Value = { Draft };
 
     ghost view = { λ writer. record {
-        pieces = writer.setup.now.bindings;
-        rows = reverse writer.rows.items;
-        prints = writer.prints.items } };
+      pieces = writer.setup.now.bindings;
+      rows = reverse writer.rows.items;
+      prints = writer.prints.items;
+    } };
 
     ghost invariant = { λ writer. HasPieces writer.setup.now writer.pieces.now };
 }

@@ -21,23 +21,23 @@ pub and_then-returns : goal.and_then-returns
 and_then-returns t c =
     subst (λ made. OnOk c.put-4.result (c.put-4.new.self ≡ made))
     (ands_made c.args.depth c.in_ok-tested.tested c.in_ok-count.count c.len-after.result (λ pieces. expression_code pieces c.args.depth (view c.args.e.now))
-      c.args.self.now c.put.new.self c.put-2.new.self c.put-3.new.self c.expression.new.self c.in_ok-tested.ensures c.in_ok-put.ensures c.in_ok-put-2.ensures c.in_ok-put-3.ensures c.in_ok-expression.ensures
-      c.len-after.ensures (λ part rest h k. c.in_ok-count.ensures part rest h k))
+    c.args.self.now c.put.new.self c.put-2.new.self c.put-3.new.self c.expression.new.self c.in_ok-tested.ensures c.in_ok-put.ensures c.in_ok-put-2.ensures c.in_ok-put-3.ensures c.in_ok-expression.ensures
+    c.len-after.ensures (λ part rest h k. c.in_ok-count.ensures part rest h k))
     c.put-4.ensures
 
 pub first-returns : goal.first-returns
 first-returns t c second rest shown behind =
     subst (λ made. OnOk c.put-2.result (c.put-2.new.self ≡ made))
     (firsts_made c.args.depth c.in_ok-tested.tested c.in_ok-second.second c.in_ok-first.first c.len-after.result (λ pieces. expression_code pieces c.args.depth (view c.args.e.now)) second rest
-      c.args.self.now c.put.new.self c.expression.new.self c.in_ok-tested.ensures shown (c.in_ok-second.ensures second rest shown behind) c.in_ok-put.ensures c.len-after.ensures c.in_ok-expression.ensures
-      (λ part more h k. c.in_ok-first.ensures part more h k))
+    c.args.self.now c.put.new.self c.expression.new.self c.in_ok-tested.ensures shown (c.in_ok-second.ensures second rest shown behind) c.in_ok-put.ensures c.len-after.ensures c.in_ok-expression.ensures
+    (λ part more h k. c.in_ok-first.ensures part more h k))
     c.put-2.ensures
 
 pub call-returns : goal.call-returns
 call-returns t c =
     subst (λ made. OnOk c.arguments.result (c.arguments.new.self ≡ made))
     (calls_made c.args.depth c.in_ok-sum.field-0 c.in_ok-count.count (Instr.Enter c.args.function c.args.line) (λ pieces. arguments_code pieces c.args.depth (views c.args.arguments.now)) c.args.arguments.now
-      c.args.self.now c.put.new.self c.in_ok-sum.ensures c.in_ok-count.ensures c.in_ok-put.ensures)
+    c.args.self.now c.put.new.self c.in_ok-sum.ensures c.in_ok-count.ensures c.in_ok-put.ensures)
     c.arguments.ensures
 
 pub arguments-loop-at-preserved : goal.arguments-loop-at-preserved

@@ -20,22 +20,22 @@ pub when-returns : goal.when-returns
 when-returns t c =
     subst (λ made. OnOk c.expression.result (c.expression.new.self ≡ made))
     (whens_made (exits_of c.args.exits) (view c.args.test.now) (view_statement c.args.body.now) c.in_ok-count.count c.len-after.result c.args.self.now c.statement.new.self c.put.new.self
-      c.in_ok-statement.ensures c.len-after.ensures (λ part rest h k. c.in_ok-count.ensures part rest h k) c.in_ok-put.ensures)
+    c.in_ok-statement.ensures c.len-after.ensures (λ part rest h k. c.in_ok-count.ensures part rest h k) c.in_ok-put.ensures)
     c.expression.ensures
 
 pub first_part-returns : goal.first_part-returns
 first_part-returns t c other rest shown behind =
     subst (λ made. OnOk c.put-2.result (c.put-2.new.self ≡ made))
     (parts_made (exits_of c.args.exits) (exits_of c.in_ok-exits.exits) (view_statement c.args.body.now) c.in_ok-other.other c.in_ok-sum.field-0 c.in_ok-one.one c.len-after.result other rest
-      c.args.self.now c.put.new.self c.statement.new.self shown (c.in_ok-other.ensures other rest shown behind) c.in_ok-sum.ensures c.in_ok-exits.ensures c.in_ok-put.ensures c.len-after.ensures c.in_ok-statement.ensures
-      (λ part more h k. c.in_ok-one.ensures part more h k))
+    c.args.self.now c.put.new.self c.statement.new.self shown (c.in_ok-other.ensures other rest shown behind) c.in_ok-sum.ensures c.in_ok-exits.ensures c.in_ok-put.ensures c.len-after.ensures c.in_ok-statement.ensures
+    (λ part more h k. c.in_ok-one.ensures part more h k))
     c.put-2.ensures
 
 pub loop_of-returns : goal.loop_of-returns
 loop_of-returns t c =
-    loops_made (record { loop = c.in_ok-sum.field-0; body = 0 }) (borrowed c.args.test) (borrowed c.args.step) (view_statement c.args.body.now) c.in_ok-count_since.field-0 c.in_ok-sum.field-0
+    loops_made (record { loop = c.in_ok-sum.field-0; body = 0 }) (borrowed c.args.test) (borrowed c.args.step) (view_statement c.args.body.now) c.in_ok-third.third c.in_ok-sum.field-0
     c.in_ok-round.round c.len-after.result c.len-behind.result c.args.self.now c.put.new.self c.optional_effect.new.self c.statement.new.self c.test.new.self c.set_back.new.self
-    c.in_ok-put.ensures c.len-after.ensures c.len-behind.ensures c.in_ok-optional_effect.ensures (λ part rest h k. c.in_ok-count_since.ensures part rest h k)
+    c.in_ok-put.ensures c.len-after.ensures c.len-behind.ensures c.in_ok-optional_effect.ensures (λ part rest h k. c.in_ok-third.ensures part rest h k)
     c.in_ok-sum.ensures refl c.in_ok-statement.ensures (λ part rest h k. c.in_ok-test.ensures part rest h k) (λ part rest h k. c.in_ok-round.ensures part rest h k)
     (λ part rest long was. c.set_back.ensures part rest long was)
 
