@@ -1,0 +1,5 @@
+//! The large job from its number on.
+#![tactic(auto)]
+
+#[cfg(test)]
+mod tests;

@@ -1,0 +1,4 @@
+//! What the clauses mean, by examples.
+
+mod jobs;
+mod programs;
