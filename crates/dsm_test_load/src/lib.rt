@@ -1,5 +1,0 @@
-//! The large job from its number on.
-#![tactic(auto)]
-
-#[cfg(test)]
-mod tests;

@@ -1,4 +1,0 @@
-//! What the clauses mean, by examples.
-
-mod jobs;
-mod programs;
