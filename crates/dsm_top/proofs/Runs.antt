@@ -18,14 +18,14 @@ use Rattle.dsm_base.specs.Endings.{endings_of, finished_by}
 use Rattle.dsm_base.specs.Output.{printed_lines}
 use Rattle.dsm_base.specs.Plain.{labels_of}
 use Rattle.dsm_net.specs.declared.trace.Group.{Group}
-use Rattle.dsm_net.specs.Fits.{IsWithin, Done, FitsUnits, run_of}
+use Rattle.dsm_net.specs.Fits.{IsWithin, Done, FitsUnits, acts_of, run_of}
 use Rattle.dsm_net.specs.Story.{history, own_turns_of, labels_of_turns}
 use Rattle.dsm_laws_protocol.specs.Holding.{AreWithin}
 use Rattle.dsm_laws_protocol.specs.OwnParts.{HasOwnParts}
 use Rattle.dsm_laws_history.specs.Output.{output_of}
 use Rattle.dsm_network.specs.World.{setup_of, groups_of, units_of, net_of, ending_at}
 use Rattle.dsm_top.specs.declared.status.Status.{Status}
-use Rattle.dsm_top.specs.Lawful.{IsLawful}
+use Rattle.dsm_top.specs.Lawful.{IsLawful, AreLawful}
 use Rattle.dsm_top.specs.declared.shown.Asked.{Asked}
 use Rattle.dsm_top.specs.Ended.{Left, TakesFront, IsRun, Ran, shown_after}
 use Rattle.dsm_top.specs.Runs.{SmallWorld, first_by, small_kind, first_in, IsMadeBy, HasAll, FitsFirst, WroteCutShowing, shown_of}
@@ -42,6 +42,12 @@ use Rattle.dsm_top.proofs.Went.{went_showing}
 abbrev pub Law : Type 0
 Law = (program : SmallProgram) (setup : Setup) (acts : List Act) (trace : List Group) (fits : FitsUnits setup (small_first program setup.procs) small_semantics acts trace) → AreWithin setup acts →
     IsLawful setup (small_first program setup.procs) small_semantics (run_of setup (small_first program setup.procs) small_semantics fits.done).net trace
+
+-- a run is lawful after each unit of it
+pub all_lawful : (program : SmallProgram) (setup : Setup) (law : Law) (done : List Done) → AreWithin setup (acts_of done) → AreLawful setup (small_first program setup.procs) small_semantics done
+all_lawful program setup law [] within = law program setup [] [] record { done = []; same_acts = refl; is_trace = refl } within
+all_lawful program setup law (one ∷ before) within =
+    (law program setup (acts_of (one ∷ before)) _ record { done = one ∷ before; same_acts = refl; is_trace = refl } within, all_lawful program setup law before within.1)
 
 abbrev pub Output : Type 0
 Output = (setup : Setup) (first : ℕ → SmallState) (acts : List Act) (trace : List Group) → FitsUnits setup first small_semantics acts trace → output_of trace ≡ printed_lines (history trace)
@@ -68,7 +74,8 @@ module _ (program : SmallProgram) (procs : ℕ) (count : IsTrue (is_proc_count p
   is_run units trace within fits = record {
     within = within;
     fits = fits;
-    lawful = law program (small_setup program procs count) (reverse (take units schedule)) trace fits (all_front (IsWithin (small_setup program procs count)) schedule units all_within);
+    lawful = all_lawful program (small_setup program procs count) law fits.done
+        (subst (AreWithin (small_setup program procs count)) (sym fits.same_acts) (all_front (IsWithin (small_setup program procs count)) schedule units all_within));
   }
 
   module _ (output : Output) (asked : Asked) (world : SmallWorld) (left : Left) (setup : setup_of world ≡ small_setup program procs count) (first : first_in world ≡ small_first program procs)

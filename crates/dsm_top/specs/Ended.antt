@@ -27,7 +27,7 @@ use Rattle.dsm_command.specs.Commands.{Command, run, check, plain}
 use Rattle.dsm_top.specs.Messages.{message_of}
 use Rattle.dsm_top.specs.Shown.{shown_by}
 use Rattle.dsm_top.specs.Statuses.{status_of_finished}
-use Rattle.dsm_top.specs.Lawful.{IsLawful}
+use Rattle.dsm_top.specs.Lawful.{AreLawful}
 use Rattle.dsm_top.specs.Accepted.{IsAccepted, HasFitting, HasPicks}
 use Rattle.dsm_top.specs.PickRuns.{IsRunByPicks}
 use Rattle.dsm_top.specs.Refusals.{Given, Refuses}
@@ -127,9 +127,8 @@ pub record IsRun (program : SmallProgram) (procs : ℕ) (count : IsTrue (is_proc
   pub within : units ≤ length schedule
   pub fits : FitsUnits (small_setup program procs count) (small_first program procs) small_semantics
       (reverse (take units schedule)) trace
-  pub lawful : IsLawful (small_setup program procs count) (small_first program procs) small_semantics
-      (run_of (small_setup program procs count) (small_first program procs) small_semantics
-      fits.done).net trace
+  pub lawful : AreLawful (small_setup program procs count) (small_first program procs) small_semantics
+      fits.done
 
 -- what is asked for behind the lines of a run: the texts of its trace and of the state after it
 abbrev pub shown_after : {program : SmallProgram} {procs : ℕ} {count : IsTrue (is_proc_count procs)}

@@ -1,8 +1,9 @@
 -- What is proved of every run of processors without a common memory.
-use Rattle.std.specs.Prelude.{ℕ, List}
+use Rattle.std.specs.Prelude.{ℕ, List, [], ◌∷◌}
 use Rattle.dsm_base.specs.declared.setup.Setup.{Setup}
 use Rattle.dsm_base.specs.Threads.{Semantics}
 use Rattle.dsm_net.specs.declared.trace.Group.{Group}
+use Rattle.dsm_net.specs.Fits.{Done, run_of}
 use Rattle.dsm_net.specs.Net.{Net}
 use Rattle.dsm_net.specs.Story.{history}
 use Rattle.dsm_laws_protocol.specs.Holding.{HoldTogether}
@@ -38,3 +39,14 @@ pub record IsLawful {S : Type 0} (setup : Setup) (first : ℕ → S) (threads : 
   pub together : HoldTogether net
   pub not_in_vain : NobodyWaitsInVain net
   pub locks_told : LocksAreTold setup first threads net (history trace)
+
+-- it holds of what these units make, the newest first
+abbrev pub IsLawfulAfter : {S : Type 0} → Setup → (ℕ → S) → Semantics S → List Done → Type 0
+IsLawfulAfter setup first threads done =
+    IsLawful setup first threads (run_of setup first threads done).net (run_of setup first threads done).groups
+
+-- and after each unit of them, also before the first
+abbrev pub AreLawful : {S : Type 0} → Setup → (ℕ → S) → Semantics S → List Done → Type 0
+AreLawful setup first threads [] = IsLawfulAfter setup first threads []
+AreLawful setup first threads (one ∷ before) =
+    IsLawfulAfter setup first threads (one ∷ before) × AreLawful setup first threads before
