@@ -1,0 +1,5 @@
+pub mod Beside
+pub mod Plain
+pub mod Effects
+pub mod Units
+pub mod Nets
