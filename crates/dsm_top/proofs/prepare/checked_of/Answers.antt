@@ -18,4 +18,8 @@ returns-in_err-program-clause-refused g c =
     (refuses_program record { files = g.F.Files.files_hold c.args.files.now; before = g.F.Files.files_faults c.args.files.now; after = g.F.Files.files_faults c.read_text.new.files } (string_bytes c.args.name.now) c.as_slice.result.now c.in_ok-text.text.items c.as_slice.ensures.value c.in_err-program.field-0.0 c.in_ok-text.ensures.text c.in_err-program.ensures)
 
 pub returns-clause-program : goal.returns-clause-program
-returns-clause-program g c = subst (λ text. IsChecked text (program_of c.in_ok-program.program)) c.as_slice.ensures.value c.in_ok-program.ensures
+returns-clause-program g c = record {
+  text = c.in_ok-text.text.items;
+  is_read = c.in_ok-text.ensures.text;
+  is_program = subst (λ text. IsChecked text (program_of c.in_ok-program.program)) c.as_slice.ensures.value c.in_ok-program.ensures;
+}
