@@ -1,10 +1,11 @@
 -- What a run leaves.
-use Rattle.std.specs.Prelude.{◌≡◌, ◌≤◌, ℕ, List, [], ◌∷◌, ◌++◌, length, take, reverse}
+use Rattle.std.specs.Prelude.{◌≡◌, ◌≤◌, ℕ, List, [], ◌∷◌, ◌++◌, length, take, reverse, Result, Ok, Err, IfOk}
 use Rattle.std.proofs.Common.{refl, sym, ap, ◌∙◌, arith, subst, inl, inr}
 use Rattle.dsm_base.specs.Causes.{Rose, IfFailed}
 use Rattle.dsm_base.specs.declared.errors.ReadErr.{ReadErr}
 use Rattle.dsm_base.specs.Sink.{appended, TakesPart}
 use Rattle.dsm_base.specs.declared.act.Act.{Act}
+use Rattle.dsm_base.specs.declared.errors.MemFault.{MemFault}
 use Rattle.dsm_base.specs.declared.finished.Finished.{Finished}
 use Rattle.dsm_base.specs.declared.setup.Setup.{Setup}
 use Rattle.dsm_base.specs.Endings.{endings_of, finished_by}
@@ -14,6 +15,7 @@ use Rattle.dsm_check.specs.Programs.{Program}
 use Rattle.dsm_check.specs.Setups.{IsSetupOf}
 use Rattle.dsm_semantics.specs.Programs.{first_states, threads_of}
 use Rattle.dsm_code.specs.Machine.{State, code_semantics, first_state}
+use Rattle.dsm_code.specs.Programs as code
 use Rattle.dsm_laws_code.specs.Programs.{code_of}
 use Rattle.dsm_laws_same.specs.Images.{without_threads}
 use Rattle.dsm_net.specs.declared.trace.Group.{Group}
@@ -81,11 +83,17 @@ is_setup_still program procs old new same is = subst (IsSetupOf program procs) (
 pub first_still : (program : Program) (old new : CodeWorld) → IsSameRun old new → first_in old ≡ first_state (code_of program) (setup_of old).procs → first_in new ≡ first_state (code_of program) (setup_of new).procs
 first_still program old new same is = same.first ∙ (is ∙ ap (λ (setup : Setup). first_state (code_of program) setup.procs) (sym same.setup))
 
+-- the first states of a world whose maker has the code of a program
+pub first_by_code : (result : Result CodeWorld MemFault) (program : Program) (made : code.Program) (setup : Setup) → made ≡ code_of program → IfOk result (λ world. first_in world ≡ first_state made setup.procs) → IfOk result (λ world. setup_of world ≡ setup)
+    → IfOk result (λ world. first_in world ≡ first_state (code_of program) (setup_of world).procs)
+first_by_code (Ok world) program made setup is first same = first ∙ (λ i. first_state (is i) (sym same i).procs)
+first_by_code (Err error) program made setup is first same = tt
+
 module _ (program : Program) (procs : ℕ) (schedule : List Act) (law : Law) (output : Output) (same : Same program) (asked : Asked) (world : CodeWorld) (left : Left)
     (is_setup : IsSetupOf program procs (setup_of world)) (first : first_in world ≡ first_state (code_of program) (setup_of world).procs) (all_within : AreWithin (setup_of world) schedule)
     (within : units_of world ≤ length schedule) (trace : left.trace ≡ groups_of world) (units : left.units ≡ units_of world) where
   -- the same units, where the first states are named by the code of the program
-  same_run : (done : List Done) → run_of (setup_of world) (first_state (code_of program) (setup_of world).procs) code_semantics done ≡ run_of (setup_of world) (first_in world) code_semantics done
+  pub same_run : (done : List Done) → run_of (setup_of world) (first_state (code_of program) (setup_of world).procs) code_semantics done ≡ run_of (setup_of world) (first_in world) code_semantics done
   same_run done = ap (λ from. run_of (setup_of world) from code_semantics done) (sym first)
 
   abbrev pub run : FitsFirst world schedule → IsRun program (setup_of world) schedule left.units left.trace

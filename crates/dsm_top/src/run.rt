@@ -127,7 +127,7 @@ fn laws()
 
 /// Runs a program by a schedule, and puts what is asked for behind the lines.
 pub(crate) fn run<K: Sink>(alloc: Global, prepared: ScheduledRun, out: &mut K) -> Report
-    ensures ran { IsScheduled prepared
+    ensures { IsScheduled prepared
         (left_by K.sink_holds K.sink_faults out.old out.new result) result.status }
 {
     laws();

@@ -16,8 +16,8 @@ start-requires g c = some_procs c.args.prepared.schedule
 pub go_through-requires-clause-procs : goal.go_through-requires-clause-procs
 go_through-requires-clause-procs g c = c.in-Ok.ensures.setup.procs
 
-pub returns-clause-ran : goal.returns-clause-ran
-returns-clause-ran g c =
+pub returns : goal.returns
+returns g c =
     let program = program_of c.args.prepared.program in
     let schedule = acts_of c.args.prepared.schedule in
     let world = c.go_through.new.world in
@@ -45,5 +45,5 @@ returns-clause-ran g c =
           c.go_through.ensures.fits w.in-Err.error w.in-Err.ensures.cut w.in-Err.ensures.cause.rose))
     ]
 
-pub returns-in_default-clause-ran : goal.returns-in_default-clause-ran
-returns-in_default-clause-ran g c = rw (c.untraced.ensures) (inl (record { is_memory = refl; nothing = refl }, refl, refl))
+pub returns-in_default : goal.returns-in_default
+returns-in_default g c = rw (c.untraced.ensures) (inl (record { is_memory = refl; nothing = refl }, refl, refl))
