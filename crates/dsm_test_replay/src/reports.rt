@@ -311,7 +311,7 @@ fn a_crossing_brings_the_lines_of_the_others(rt: HostRuntime) -> Result<(), Fail
     };
     let replay = replay(rt.alloc(), &first, &second, 0)?;
     let lines = shown(rt.alloc(), &replay.lines(Input::Cross(Bar(0), 1), 0)?)?;
-    assert_eq!(rt; lines.as_slice(), &[(1, 2), (2, 3)]);
+    assert_eq!(rt; lines.as_slice(), [(1, 2), (2, 3)].as_slice());
     assert!(rt; replay.lines(Input::Cross(Bar(0), 2), 0)?.is_empty());
     assert!(rt; replay.report(Proc(1)).is_some());
     assert!(rt; replay.report(Proc(0)).is_none());
