@@ -1,8 +1,8 @@
 //! The file of a mark: a byte for the slot, and four for the number of its blocks, the highest first.
 
-ghost use Rattle.std.specs.Prelude.{◌≡◌, IfOk, IfSome};
+ghost use Rattle.std.specs.Prelude.{◌≡◌, IfOk, IfSome, IfNone};
 ghost use Rattle.dsm_base.specs.Store.{IsMark, IsMarkOrNone};
-ghost use Rattle.dsm_adapt.specs.Marks.{mark_bytes};
+ghost use Rattle.dsm_adapt.specs.Marks.{mark_bytes, IsNoMark};
 
 use dsm_base::u32_at;
 use std::fs::{self, OpenFile};
@@ -21,6 +21,7 @@ fn mark_bytes(slot: u8, blocks: u32) -> [u8; 5]
 fn mark_of(bytes: &[u8; 5]) -> Option<(u8, u32)>
     ensures spelled { IfSome result (λ mark. bytes.now ≡ mark_bytes mark) }
     ensures mark { IfSome result IsMark }
+    ensures none { IfNone result (IsNoMark bytes.now) }
 {
     let (blocks, _) = u32_at(&bytes[1..])?;
     if bytes[0] < 3 && blocks > 0 {

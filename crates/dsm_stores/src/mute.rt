@@ -1,10 +1,9 @@
 //! Stores that tell nothing of what they hold.
 
 ghost use Rattle.std.specs.Prelude.{◌≡◌, ◌<◌, ◌+◌, ◌%◌, IfOk, IfSome, IsTrue, OnOk, length, slice_index, slice_set};
-ghost use Rattle.std.specs.Option.{option_map};
-ghost use Rattle.dsm_base.specs.Causes.{HasFailureCause};
+ghost use Rattle.dsm_base.specs.Causes.{HasCause, HasFailureCause};
 ghost use Rattle.dsm_base.specs.Store.{IsSlot, IsBlock, IsMark, IsMarkOrNone, IsUnmarked};
-ghost use Rattle.dsm_base.specs.Store.{Clears, Marks, TellsMark, with_block};
+ghost use Rattle.dsm_base.specs.Store.{Clears, Marks, ChangesSlot, Stands, Writes, MakesRoom, TellsMark};
 ghost use Rattle.dsm_stores.specs.Mutes.{raised};
 
 use crate::count::{counted, counted_room, raise};
@@ -79,7 +78,16 @@ impl<S: Store> Store for MuteStore<S> {
         counted(&mut self.faults, answer)
     }
 
-    fn room(&mut self, slot: u8, blocks: u32) -> Result<(), ReadErr> {
+    fn room(&mut self, slot: u8, blocks: u32) -> Result<(), ReadErr>
+        requires slot { IsSlot slot }
+        ensures room { MakesRoom slot blocks (S.store_room self.old.inner)
+            (S.store_room self.new.inner) result }
+        ensures cause { HasCause self.old.faults self.new.faults result }
+        ensures passed { Stands (S.store_holds self.old.inner) (S.store_holds self.new.inner)
+            (ChangesSlot slot) }
+        ensures refused { ¬ IsUnmarked slot (S.store_holds self.old.inner) →
+            S.store_holds self.new.inner ≡ S.store_holds self.old.inner }
+    {
         if !self.is_free(slot) {
             raise(&mut self.faults);
             return Err(ReadErr::Failed);
@@ -94,8 +102,10 @@ impl<S: Store> Store for MuteStore<S> {
         requires whole { IsBlock bytes.now }
         ensures room { S.store_room self.new.inner ≡ S.store_room self.old.inner }
         ensures cause { HasFailureCause self.old.faults self.new.faults result }
-        ensures passed { OnOk result (S.store_holds self.new.inner
-            ≡ option_map (with_block slot block bytes.now) (S.store_holds self.old.inner)) }
+        ensures passed { Writes slot block bytes.now (S.store_holds self.old.inner)
+            (S.store_holds self.new.inner) result }
+        ensures refused { ¬ IsUnmarked slot (S.store_holds self.old.inner) →
+            S.store_holds self.new.inner ≡ S.store_holds self.old.inner }
     {
         if !self.is_free(slot) {
             raise(&mut self.faults);

@@ -1,0 +1,4 @@
+pub mod Writing
+pub mod Shown
+pub mod Bounds
+pub mod Made

@@ -1,0 +1,6 @@
+pub mod Beside
+pub mod Images
+pub mod Plain
+pub mod Effects
+pub mod Units
+pub mod Nets

@@ -1,5 +1,0 @@
-//! Images and their bytes.
-#![tactic(auto)]
-
-#[cfg(test)]
-mod images;
