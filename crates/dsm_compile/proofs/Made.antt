@@ -1,5 +1,5 @@
 -- Statements that are written from their end on.
-use Rattle.std.proofs.Common.{◌≡◌, ℕ, ◌+◌, List, [], ◌∷◌, ◌++◌, length, Option, Some, None, refl, ap, sym, ◌∙◌, append_assoc, length-append}
+use Rattle.std.proofs.Common.{◌≡◌, ℕ, ◌+◌, List, [], ◌∷◌, ◌++◌, length, Option, ap, sym, ◌∙◌, append_assoc, length-append}
 use Rattle.dsm_check.specs.Resolved as r
 use Rattle.dsm_code.specs.declared.instruction.Instr.{Instr}
 use Rattle.dsm_code.specs.declared.parts.Row.{Row}

@@ -1,5 +1,5 @@
 -- Code that is written from its end on.
-use Rattle.std.specs.Prelude.{ℕ, List, ◌++◌, length, Option, Some, None}
+use Rattle.std.specs.Prelude.{List, ◌++◌, length, Option, Some, None}
 use Rattle.std.specs.Borrow.{Bor}
 use Rattle.dsm_base.specs.declared.setup.Piece.{Piece}
 use Rattle.dsm_check.specs.declared.resolved.Expression.{Expression}

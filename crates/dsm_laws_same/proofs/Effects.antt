@@ -16,7 +16,7 @@ use Rattle.dsm_net.specs.Messages.{keeper_of, message, with_carry}
 use Rattle.dsm_net.specs.Turns.{OwnTurn, own_view, turn_with, own_turn}
 use Rattle.dsm_base.specs.Plain.{label_of}
 use Rattle.dsm_net.specs.Effects.{Effect, only, counts, effect_of, effect_of_body, effect_of_message, release_of, body_of, effect_of_telling_to, effect_of_telling, printed_by, processor_after, effect_of_turn}
-use Rattle.dsm_laws_same.proofs.Images.{own_by, processor_by, effect_by}
+use Rattle.dsm_laws_same.specs.Images.{own_by, processor_by, effect_by}
 
 -- one of two, whatever is made of them
 pub either_by : {A B : Type 0} (f : A → B) (test : Bool) (one other : A) → (if test then f one else f other) ≡ f (if test then one else other)

@@ -1,5 +1,4 @@
 pub mod Beside
-pub mod Images
 pub mod Plain
 pub mod Effects
 pub mod Units

@@ -15,14 +15,14 @@ use Rattle.dsm_net.specs.Inputs.{Input, input_for}
 use Rattle.dsm_net.specs.Messages.{processor_named, with_carry}
 use Rattle.dsm_net.specs.Turns.{OwnTurn, own_view, turn_with, own_turn}
 use Rattle.dsm_net.specs.Effects.{body_of, processor_after, effect_of_message, effect_of_turn}
-use Rattle.dsm_net.specs.Net.{Net}
+use Rattle.dsm_net.specs.Net.{Begun, Net}
 use Rattle.dsm_net.specs.Units.{Outcome, Made, with_effect, step_with, step_of, delivery_of, unit_of}
 use Rattle.dsm_net.specs.Fits.{Done, Ran, FitsUnits, ran_after, run_of}
 use Rattle.dsm_laws_protocol.proofs.Kept.{effect_kept}
 use Rattle.dsm_laws_protocol.proofs.OwnParts.{body_own, telling_own}
 use Rattle.dsm_laws_code.specs.Runs.{RunsAs}
 use Rattle.dsm_laws_same.proofs.Beside.{both, both_first, AreBeside, beside_first, beside_on, same_want, same_text, answers}
-use Rattle.dsm_laws_same.proofs.Images.{ran_by}
+use Rattle.dsm_laws_same.specs.Images.{up_by, begun_by, ran_by, without_threads}
 use Rattle.dsm_laws_same.proofs.Units.{WantTheSame, unit_same}
 
 -- a turn has a label that answers what the thread wants
@@ -40,6 +40,24 @@ answers_turn setup threads p own (Some input) turn is = go (label_of setup.bindi
         labelled : Option OwnTurn → Label
         labelled None = label
         labelled (Some one) = one.label
+
+-- without the states of threads it doesn't matter what they were
+module _ {P S : Type 0} (g : P → S) where
+  no_thread : (s : Option (Processor P)) → up_by {S = Unit {0}} (λ state. tt) (up_by g s) ≡ up_by {S = Unit {0}} (λ state. tt) s
+  no_thread None = refl
+  no_thread (Some s) = refl
+
+  no_begun : (begun : Option (Begun P)) → begun_by {S = Unit {0}} (λ state. tt) (begun_by g begun) ≡ begun_by {S = Unit {0}} (λ state. tt) begun
+  no_begun None = refl
+  no_begun (Some begun) = refl
+
+  no_threads : (ran : Ran P) → without_threads (ran_by g ran) ≡ without_threads ran
+  no_threads ran = λ i. record (without_threads ran) {
+    net = record (without_threads ran).net {
+      processors = λ p. no_thread (ran.net.processors p) i;
+      images = λ p. record { marked = no_thread (ran.net.images p).marked i; begun = no_begun (ran.net.images p).begun i };
+    };
+  }
 
 module _ {S T : Type 0} (setup : Setup) (threads : Semantics S) (others : Semantics T) where
   -- the threads of all processors are beside each other
@@ -127,6 +145,11 @@ module _ {S T : Type 0} (setup : Setup) (threads : Semantics S) (others : Semant
         ap (λ one. ran_after one (length before + 1) (unit_of setup others one.net done.act done.outcome)) (second_ran before)
         ∙ ap (ran_after (ran_by (λ s. s.1) ran) (length before + 1))
         (unit_same (λ s. s.1) setup (both threads others) others (λ x label. refl) ran.net done.act done.outcome (second_wants ran.net))
+
+    -- the same units make the same but for the states of threads
+    pub same_units : (done : List Done) → without_threads (run_of setup first threads done) ≡ without_threads (run_of setup start others done)
+    same_units done =
+        ap without_threads (first_ran done) ∙ (no_threads (λ s. s.0) (beside_of done) ∙ (sym (no_threads (λ s. s.1) (beside_of done)) ∙ sym (ap without_threads (second_ran done))))
 
     -- the same units make the same trace
     pub fits : (acts : List Act) (trace : List Group) → FitsUnits setup first threads acts trace → FitsUnits setup start others acts trace

@@ -10,7 +10,7 @@ use Rattle.dsm_base.specs.Plain.{PlainState, Turn, seen_by, plain_after, is_poss
 use Rattle.dsm_base.specs.Agrees.{AgreesWith, HasMemory}
 use Rattle.dsm_laws_code.specs.Runs.{RunsAs}
 use Rattle.dsm_laws_same.proofs.Beside.{both, both_first, AreBeside, beside_first, beside_on, same_want, same_text, answers}
-use Rattle.dsm_laws_same.proofs.Images.{plain_by}
+use Rattle.dsm_laws_same.specs.Images.{plain_by}
 
 pub updated : {A B : Type 0} (g : A → B) (f : ℕ → A) (p : ℕ) (a : A) (b : B) → g a ≡ b → (q : ℕ) → g (update f p a q) ≡ update (λ r. g (f r)) p b q
 updated g f p a b e q = go (q == p)

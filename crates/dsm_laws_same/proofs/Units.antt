@@ -16,7 +16,7 @@ use Rattle.dsm_net.specs.Messages.{processor_named}
 use Rattle.dsm_net.specs.Effects.{Effect, effect_of_message, effect_of_turn}
 use Rattle.dsm_net.specs.Net.{Net}
 use Rattle.dsm_net.specs.Units.{Outcome, Made, then_made, with_message_to, with_message, with_messages, with_line_out, with_lines_out, with_processor, with_note, with_replay, with_effect, step_with, step_of, delivery_of, unit_of}
-use Rattle.dsm_laws_same.proofs.Images.{processor_by, up_by, net_by, effect_by, made_by}
+use Rattle.dsm_laws_same.specs.Images.{processor_by, up_by, net_by, effect_by, made_by}
 use Rattle.dsm_laws_same.proofs.Plain.{updated}
 use Rattle.dsm_laws_same.proofs.Effects.{either_by, message_same, turn_effect, own_turn_same}
 

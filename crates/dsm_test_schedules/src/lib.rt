@@ -1,4 +1,4 @@
-//! Schedules and lists of picks from their text on.
+//! Schedules and lists of picks from their text on; the large job from its number on.
 #![tactic(auto)]
 
 #[cfg(test)]

@@ -1,5 +1,7 @@
 //! What the clauses mean, by examples.
 
+mod jobs;
 mod picks;
+mod programs;
 mod rounds;
 mod schedules;

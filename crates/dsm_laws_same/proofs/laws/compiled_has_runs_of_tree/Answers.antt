@@ -20,3 +20,7 @@ returns-clause-agrees c = λ program procs. plain.agrees code_semantics (threads
 pub returns-clause-fits : goal.returns-clause-fits
 returns-clause-fits c = λ program procs setup acts trace valid.
     nets.fits setup code_semantics (threads_of program) (first_state (code_of program) procs) (first_states program procs) (λ p. compiled_runs_as_tree program procs p valid) acts trace
+
+pub returns-clause-units : goal.returns-clause-units
+returns-clause-units c = λ program procs setup done valid.
+    nets.same_units setup code_semantics (threads_of program) (first_state (code_of program) procs) (first_states program procs) (λ p. compiled_runs_as_tree program procs p valid) done

@@ -5,7 +5,6 @@ use Rattle.dsm_check.specs.Resolved as r
 use Rattle.dsm_check.proofs.Shown.{view_call}
 use Rattle.dsm_code.specs.declared.instruction.Instr.{Instr}
 use Rattle.dsm_laws_code.specs.Expressions.{expression_code, arguments_code}
-use Rattle.dsm_compile.proofs.Shown.{counted}
 use Rattle.dsm_compile.specs.Drafts.{with_code}
 use Rattle.dsm_compile.proofs.Writing.{ands_made, firsts_made, calls_made, next_argument}
 use Rattle.dsm_compile.proofs.writer.Writer.+expression.Goals as goal

@@ -100,7 +100,8 @@ int main(int me, int n) {
   a[2] *= a[2];
   a[2] <<= 1;
   a[2] ^= 7;
-  print(i, \" \", b, \" \", c, \" \", a[0], \" \", a[1], \" \", a[2], \" \", a[3]);
+  print(i, \" \", b, \" \", c);
+  print(a[0], \" \", a[1], \" \", a[2], \" \", a[3]);
   int x = 7;
   x %= 4;
   x |= 8;
@@ -131,7 +132,7 @@ int main(int me, int n) {
 const PRINTING: &[(&str, &str)] = &[
     (LOOPS, "sum 336 k 1\n1113\n"),
     (LOGIC, "0169 10035609\n"),
-    (STEPS, "3 6 2 0 5 101 2\n-9 8 9 0\n"),
+    (STEPS, "3 6 2\n0 5 101 2\n-9 8 9 0\n"),
     (SHARED, "610\n12\n"),
 ];
 
@@ -150,7 +151,7 @@ const ENDLESS: &str = "int f(int k) { return f(k + 1); }
 int main(int me, int n) { return f(0); }";
 
 #[test]
-fn calls_are_limited_to_a_depth(rt: HostRuntime) -> Result<(), Fail> {
+fn calls_of_programs_are_limited_to_a_depth(rt: HostRuntime) -> Result<(), Fail> {
     let ran = run(rt.alloc(), ENDLESS, 0)?;
     assert_eq!(rt; ran.stopped, Some((Fault::Depth, 1)));
     assert_eq!(rt; ran.steps, 256);
