@@ -36,7 +36,7 @@ use Rattle.dsm_laws_runs.specs.Versions.{AllAskFirst}
 use Rattle.dsm_laws_runs.proofs.Epochs.{comes_to, arrived_step}
 use Rattle.dsm_laws_protocol.specs.Courses.{upto}
 use Rattle.dsm_laws_protocol.specs.Due.{Item, items, due, IsFirstDue, Word, asked, gave, arrived, word_for}
-use Rattle.dsm_laws_protocol.specs.Flows.{words_in, IsFlow}
+use Rattle.dsm_laws_protocol.specs.Flows.{words_in, words, IsFlow}
 use Rattle.dsm_laws_protocol.specs.Holding.{AreWithin}
 use Rattle.dsm_laws_protocol.specs.Steps.{Step, steps_of, turns_of}
 use Rattle.dsm_laws_protocol.specs.Worlds.{World}
@@ -48,6 +48,7 @@ use Rattle.dsm_laws_protocol.proofs.Own.{IsOwnTurn}
 use Rattle.dsm_laws_protocol.proofs.Quiet.{ask_label, give_word, came_label}
 use Rattle.dsm_laws_protocol.proofs.Reached.{IsReached, after_turn, after_delivery}
 use Rattle.dsm_laws_protocol.proofs.Reaching.{start_world, Keeps, Holds, trace_holds}
+use Rattle.dsm_laws_history.specs.Desks.{RestIsUnderWay}
 use Rattle.dsm_laws_history.specs.NewerLines.{IsArrivalIn, IsTrue}
 use Rattle.dsm_laws_history.specs.Openings.{comings_upto, IsOpenedByAll, HasOpened, OpenWhenAllCame}
 use Rattle.dsm_laws_history.proofs.Lines.{both_true}
@@ -491,11 +492,18 @@ module _ {S : Type 0} (setup : Setup) (first : ℕ → S) (threads : Semantics S
       own_handled : world.handled p p ≡ length (labels_of p turns_run)
       own_handled = holds.reached.own_handled p ∙ ap length (holds.kept.history_is.courses p)
 
-      has_opened : HasOpened setup turns_run p (world.processors p).barriers
+      rest : RestIsUnderWay setup turns_run p (world.handled p) net.channels
+      rest q other = elim (eqb_tells q p) [
+        | inl (_, i) ↦ absurd (other i)
+        | inr (t, _) ↦ ap words (holds.is_net.under_way q p) ∙ ((holds.reached.flows q p t).is_due ∙ ap (due (word_for setup p) (world.handled p q)) (holds.kept.history_is.courses q))
+      ]
+
+      has_opened : HasOpened setup turns_run p (world.processors p).barriers net.channels
       has_opened = record {
         handled = world.handled p;
         in_course = λ q. subst (λ labels. world.handled p q ≤ length labels) (holds.kept.history_is.courses q) (handled_within world (steps_of trace) holds.reached holds.kept.history_is holds.kept.managed p q);
         own = own_handled;
+        rest = rest;
         barriers_are = by_all;
       }
 
@@ -503,5 +511,5 @@ module _ {S : Type 0} (setup : Setup) (first : ℕ → S) (threads : Semantics S
     same_some a b e = cc
 
     pub opens_when_all_came : OpenWhenAllCame setup (history trace) net
-    opens_when_all_came p s e = subst (λ r. HasOpened setup r p s.barriers) (steps_are trace)
-        (subst (λ (x : Processor S). HasOpened setup turns_run p x.barriers) (same_some (world.processors p) s (sym (holds.is_net.up p) ∙ e)) (has_opened p))
+    opens_when_all_came p s e = subst (λ r. HasOpened setup r p s.barriers net.channels) (steps_are trace)
+        (subst (λ (x : Processor S). HasOpened setup turns_run p x.barriers net.channels) (same_some (world.processors p) s (sym (holds.is_net.up p) ∙ e)) (has_opened p))

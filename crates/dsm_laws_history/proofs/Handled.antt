@@ -16,6 +16,8 @@ use Rattle.dsm_net.specs.Fits.{FitsUnits, run_of}
 use Rattle.dsm_net.specs.Story.{history}
 use Rattle.dsm_laws_runs.specs.Versions.{AllAskFirst}
 use Rattle.dsm_laws_protocol.specs.Courses.{upto, moves_of, claim_of, made_by}
+use Rattle.dsm_laws_protocol.specs.Due.{due, word_for}
+use Rattle.dsm_laws_protocol.specs.Flows.{words}
 use Rattle.dsm_laws_protocol.specs.Situations.{is_apart, is_waiting, is_granted, has_taken, Stands, Situation, IsLawful, modes_of, waits_of, waiting_for}
 use Rattle.dsm_laws_protocol.specs.Holding.{AreWithin}
 use Rattle.dsm_laws_protocol.specs.Steps.{steps_of, turns_of}
@@ -24,7 +26,7 @@ use Rattle.dsm_laws_protocol.proofs.Families.{total_same}
 use Rattle.dsm_laws_protocol.proofs.Flows.{order_within}
 use Rattle.dsm_laws_protocol.proofs.Reaching.{Holds}
 use Rattle.dsm_laws_history.specs.NewerLines.{IsVersion}
-use Rattle.dsm_laws_history.specs.Desks.{IsAsClaimed, IsKnown, HasHandled, AllHaveHandled}
+use Rattle.dsm_laws_history.specs.Desks.{IsAsClaimed, IsKnown, RestIsUnderWay, HasHandled, AllHaveHandled}
 use Rattle.dsm_laws_history.proofs.Reached.{HasHistory}
 use Rattle.dsm_laws_history.proofs.Histories.{history_holds}
 use Rattle.dsm_laws_history.proofs.Agreement.{steps_are}
@@ -91,11 +93,18 @@ module _ {S : Type 0} (setup : Setup) (first : ℕ → S) (threads : Semantics S
       | inr (t, _) ↦ subst (λ labels. w.handled p q ≤ length labels) (holds.kept.courses q) (order_within (w.handled p q) (length (w.courses q)) (w.channels q p) (holds.reached.flows q p t).in_order)
     ]
 
-    has_handled : HasHandled setup run p (w.processors p).locks
+    rest : RestIsUnderWay setup run p (w.handled p) net.channels
+    rest q other = elim (eqb_tells q p) [
+      | inl (_, i) ↦ absurd (other i)
+      | inr (t, _) ↦ ap words (holds.is_net.under_way q p) ∙ ((holds.reached.flows q p t).is_due ∙ ap (due (word_for setup p) (w.handled p q)) (holds.kept.courses q))
+    ]
+
+    has_handled : HasHandled setup run p (w.processors p).locks net.channels
     has_handled = record {
       handled = w.handled p;
       in_course = in_course;
       own = own_handled;
+      rest = rest;
       locks_are = λ lock e. subst (λ h. IsKnown setup run lock (w.handled h) ((w.processors h).locks lock)) e (known lock);
     }
 
@@ -103,4 +112,4 @@ module _ {S : Type 0} (setup : Setup) (first : ℕ → S) (threads : Semantics S
   same_some a b e = cc
 
   pub desks : AllHaveHandled setup (history trace) net
-  desks p s e = subst (λ r. HasHandled setup r p s.locks) (steps_are trace) (subst (λ (x : Processor S). HasHandled setup run p x.locks) (same_some (w.processors p) s (sym (holds.is_net.up p) ∙ e)) (has_handled p))
+  desks p s e = subst (λ r. HasHandled setup r p s.locks net.channels) (steps_are trace) (subst (λ (x : Processor S). HasHandled setup run p x.locks net.channels) (same_some (w.processors p) s (sym (holds.is_net.up p) ∙ e)) (has_handled p))

@@ -8,12 +8,14 @@ use Rattle.dsm_lines.specs.declared.of_objects.MailOpening.{MailOpening}
 use Rattle.dsm_msg.specs.declared.message.Body.{Body}
 use Rattle.dsm_msg.specs.declared.message.Msg.{Msg}
 use Rattle.dsm_barrier.specs.BarrierStates.{BarrierState, arrivals_of}
+use Rattle.dsm_net.specs.declared.trace.Letter.{Letter}
 use Rattle.dsm_net.specs.Processor.{Processor}
 use Rattle.dsm_net.specs.Messages.{manager_of}
 use Rattle.dsm_net.specs.Net.{Net}
 use Rattle.dsm_laws_runs.specs.OwnPart.{arrived_of, crossed_of}
 use Rattle.dsm_laws_protocol.specs.Courses.{upto}
 use Rattle.dsm_laws_protocol.specs.Worlds.{said}
+use Rattle.dsm_laws_history.specs.Desks.{RestIsUnderWay}
 
 -- how often a processor has come to a barrier up to a turn of it
 abbrev pub comings_upto : List Turn → ℕ → ℕ → ℕ → ℕ
@@ -25,15 +27,16 @@ pub record IsOpenedByAll (setup : Setup) (run : List Turn) (bar : ℕ) (handled 
   pub no_early : (q : ℕ) → q < setup.procs → barrier.opened ≤ comings_upto run bar q (handled q)
   pub no_late : all_below setup.procs (λ q. nat_lt barrier.opened (comings_upto run bar q (handled q))) ≡ false
 
--- a manager has handled the turns of each processor up to one of them, and its own up to the last
-pub record HasOpened (setup : Setup) (run : List Turn) (manager : ℕ) (barriers : ℕ → BarrierState) : Type 0 where
+-- a manager has handled the turns of each processor up to one of them, and its own up to the last; what it hasn't handled is under way to it
+pub record HasOpened (setup : Setup) (run : List Turn) (manager : ℕ) (barriers : ℕ → BarrierState) (channels : ℕ → ℕ → List Letter) : Type 0 where
   pub handled : ℕ → ℕ  -- by processor
   pub in_course : (q : ℕ) → handled q ≤ length (labels_of q run)
   pub own : handled manager ≡ length (labels_of manager run)
+  pub rest : RestIsUnderWay setup run manager handled channels
   pub barriers_are : (bar : ℕ) → manager_of setup bar ≡ manager → IsOpenedByAll setup run bar handled (barriers bar)
 
 abbrev pub OpenWhenAllCame : {S : Type 0} → Setup → List Turn → Net S → Type 0
-OpenWhenAllCame setup run net = (p : ℕ) (s : Processor _) → net.processors p ≡ Some s → HasOpened setup run p s.barriers
+OpenWhenAllCame setup run net = (p : ℕ) (s : Processor _) → net.processors p ≡ Some s → HasOpened setup run p s.barriers net.channels
 
 -- Where openings are.
 

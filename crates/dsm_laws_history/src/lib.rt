@@ -53,7 +53,7 @@ pub fn takes_are_granted<T: Task>()
 
 /// What a home knows of its locks is what each processor has done up to a turn of it: who has asked for
 /// a lock and not given it back holds it or waits, once, and the version counts the exclusive holds that
-/// were given back.
+/// were given back. What it was told of later turns is under way to it.
 pub fn desks<T: Task>()
     ensures { (setup : Setup) (first : ℕ → T.State) (acts : List Act) (trace : List Group) →
         AllAskFirst setup first T.kind.semantics →
@@ -81,7 +81,8 @@ pub fn barrier_lines<T: Task>()
 {}
 
 /// What a manager knows of its barriers is what each processor has done up to a turn of it: each arrival
-/// in these turns has counted, and the barrier has opened as often as all have come in them.
+/// in these turns has counted, and the barrier has opened as often as all have come in them. What it was
+/// told of later turns is under way to it.
 pub fn opens_when_all_came<T: Task>()
     ensures { (setup : Setup) (first : ℕ → T.State) (acts : List Act) (trace : List Group) →
         AllAskFirst setup first T.kind.semantics →

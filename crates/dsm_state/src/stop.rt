@@ -14,10 +14,10 @@ pub struct Stop {
 }
 
 /// The stop that a record tells of, if it is one of this processor.
-fn stop_told(proc: Proc, record: &Rec) -> Option<Stop>
-    ensures { result ≡ stop_told proc.0 record.now }
+fn stop_told(proc: Proc, one: &Rec) -> Option<Stop>
+    ensures { result ≡ stop_told proc.0 one.now }
 {
-    match record {
+    match one {
         Rec::Turn {
             proc: by,
             label: Label::Stop(fault, line),

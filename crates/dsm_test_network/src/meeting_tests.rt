@@ -3,6 +3,7 @@
 use crate::crossing::{Course, Crossers};
 use crate::meeting::{crossing_world, rounds_of, setup_of_one_cell, setup_of_three};
 use dsm_base::{Act, Finished, Proc};
+use dsm_state::put_state;
 use std::test::Fail;
 
 /// Each of three processors makes a turn, and then its oldest messages are delivered.
@@ -36,6 +37,12 @@ fn values_are_shifted_through_two_epochs(rt: HostRuntime) -> Result<(), Fail> {
     assert_eq!(rt; text.as_slice(), b"P0: 30\nP1: 10\nP2: 20\n".as_slice());
     assert_eq!(rt; world.finished(), Finished::Done);
     assert_eq!(rt; world.units(), 90);
+    let mut state = Vec::new(rt.alloc());
+    put_state(rt.alloc(), &world, &mut state)?;
+    assert_eq!(rt;
+        state.as_slice(),
+        b"P0 turn 10 end\nP1 turn 10 end\nP2 turn 10 end\n".as_slice()
+    );
     Ok(())
 }
 

@@ -65,7 +65,7 @@ made_next old new schedule index act count is inside units goes_on made =
     }
 
 -- the trace of what was made fits the units
-pub made_fits : (world : SmallWorld) (schedule : List Act) → IsMadeBy schedule world → FitsFirst world schedule
+abbrev pub made_fits : (world : SmallWorld) (schedule : List Act) → IsMadeBy schedule world → FitsFirst world schedule
 made_fits world schedule made = record { done = made.done; same_acts = made.acts; is_trace = ap (λ ran. ran.groups) made.run.ran }
 
 -- a world that shows the same trace

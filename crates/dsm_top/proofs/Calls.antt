@@ -1,5 +1,5 @@
 -- What a refusal leaves.
-use Rattle.std.specs.Prelude.{◌≡◌, ℕ, true, false, if◌then◌else◌, List, [], reverse, Option, Some, None}
+use Rattle.std.specs.Prelude.{◌≡◌, ℕ, true, if◌then◌else◌, List, [], reverse, Option, Some, None}
 use Rattle.std.proofs.Common.{refl, sym, ap, ◌∙◌, subst, inl, inr}
 use Rattle.dsm_base.specs.Causes.{Rose, IfFailed}
 use Rattle.dsm_base.specs.declared.errors.ReadErr.{ReadErr}
@@ -60,11 +60,10 @@ only_form text _ is = absurd is
 
 only_command : (given : Given) (status : Status) (command : Option Command) → RefusesCommand given status command → is_refusal status ≡ true
 only_command given status None is = ap is_refusal is
-only_command given status (Some (run program schedule trace false)) (inl is) = only_program given program status is
-only_command given status (Some (run program schedule trace false)) (inr (inl is)) = only_schedule given schedule status is.refused
-only_command given status (Some (run program schedule trace false)) (inr (inr (inl is))) = only_owner is.refused.found is.procs status is.refused.refused
-only_command given status (Some (run program schedule trace false)) (inr (inr (inr is))) = only_form is.has_fitting.has_program.text status is.refused
-only_command given status (Some (run program schedule trace true)) is = ap is_refusal is
+only_command given status (Some (run program schedule trace state)) (inl is) = only_program given program status is
+only_command given status (Some (run program schedule trace state)) (inr (inl is)) = only_schedule given schedule status is.refused
+only_command given status (Some (run program schedule trace state)) (inr (inr (inl is))) = only_owner is.refused.found is.procs status is.refused.refused
+only_command given status (Some (run program schedule trace state)) (inr (inr (inr is))) = only_form is.has_fitting.has_program.text status is.refused
 only_command given status (Some (load seed)) is = ap is_refusal is
 only_command given status (Some (check program procs)) (inl is) = only_program given program status is
 only_command given status (Some (check program procs)) (inr is) = only_owner is.found procs status is.refused
@@ -127,9 +126,9 @@ module _ (given : Given) (before after : Option (List ℕ)) (faults_before fault
 
 -- What a command that was prepared leaves.
 
-command_run : (given : Given) (prepared : SmallRun) (left : Left) (status : Status) (command : Option Command) → IsPrepared given.files command (Prepared.Run prepared) → Ran prepared.program prepared.schedule.procs (units_of prepared.schedule) prepared.trace left status
+command_run : (given : Given) (prepared : SmallRun) (left : Left) (status : Status) (command : Option Command) → IsPrepared given.files command (Prepared.Run prepared) → Ran prepared.program prepared.schedule.procs (units_of prepared.schedule) prepared.asked left status
     → EndedCommand given left status command
-command_run given prepared left status (Some (run program schedule trace false)) is ran = record {
+command_run given prepared left status (Some (run program schedule trace state)) is ran = record {
   small = prepared.program;
   procs = prepared.schedule.procs;
   entries = prepared.schedule.entries;
@@ -138,14 +137,12 @@ command_run given prepared left status (Some (run program schedule trace false))
 }
 command_run given prepared left status _ is ran = absurd is
 
-pub ended_run : (given : Given) (prepared : SmallRun) (left : Left) (status : Status) → IsPrepared given.files given.command (Prepared.Run prepared) → Ran prepared.program prepared.schedule.procs (units_of prepared.schedule) prepared.trace left status → Ended given left status
+pub ended_run : (given : Given) (prepared : SmallRun) (left : Left) (status : Status) → IsPrepared given.files given.command (Prepared.Run prepared) → Ran prepared.program prepared.schedule.procs (units_of prepared.schedule) prepared.asked left status → Ended given left status
 ended_run given prepared left status is ran = inr (command_run given prepared left status given.command is ran)
 
 command_check : (given : Given) (left : Left) (status : Status) (command : Option Command) → IsPrepared given.files command Prepared.Check → left.trace ≡ [] → left.units ≡ 0 → Tells ok_line Status.Done left status → EndedCommand given left status command
 command_check given left status (Some (check program procs)) is no_trace no_units checked =
     record { found = is.0; accepted = is.1; no_trace = no_trace; no_units = no_units; tells = checked }
-command_check given left status (Some (run program schedule trace true)) is no_trace no_units checked = absurd is
-command_check given left status (Some (run program schedule trace false)) is no_trace no_units checked = absurd is
 command_check given left status _ is no_trace no_units checked = absurd is
 
 pub ended_check : (given : Given) (left : Left) (status : Status) → IsPrepared given.files given.command Prepared.Check → left.trace ≡ [] → left.units ≡ 0 → Tells ok_line Status.Done left status → Ended given left status
@@ -162,8 +159,6 @@ command_plain given prepared left status (Some (plain program picks)) is no_trac
   no_trace = no_trace;
   ran = ran;
 }
-command_plain given prepared left status (Some (run program schedule trace true)) is no_trace ran = absurd is
-command_plain given prepared left status (Some (run program schedule trace false)) is no_trace ran = absurd is
 command_plain given prepared left status _ is no_trace ran = absurd is
 
 -- memory ran out before the first pick, or picks were applied

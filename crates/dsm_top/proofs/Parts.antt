@@ -1,17 +1,15 @@
 -- What the refusal of a part is for the whole call.
-use Rattle.std.specs.Prelude.{◌≡◌, ◌≤◌, ℕ, Bool, true, false, List, Option, Some}
+use Rattle.std.specs.Prelude.{◌≡◌, ◌≤◌, ℕ, List, Option}
 use Rattle.std.proofs.Common.{refl, sym, ◌∙◌, subst, arith, inl, inr}
 use Rattle.dsm_base.specs.Causes.{Rose}
 use Rattle.dsm_check.specs.Programs.{Program}
 use Rattle.dsm_sched.specs.declared.picks.PickEntry.{PickEntry}
 use Rattle.dsm_sched.specs.declared.schedule.Entry.{Entry}
 use Rattle.dsm_top.specs.declared.status.Status.{Status}
-use Rattle.dsm_command.specs.Commands.{Command, run}
-use Rattle.dsm_top.specs.Accepted.{Contents, IsAccepted, HasChecked, HasFitting, HasPicks, HasSchedule}
-use Rattle.dsm_top.specs.Refusals.{Given, FilesRose, RefusesSchedule, RefusesForm, RefusesRun, RefusesProgram, RefusesPicks, RefusesOwner, RefusesCheck, RefusesPlain, OrMemory, RefusesOrMemory}
-use Rattle.dsm_top.specs.declared.prepare.Prepared.{Prepared}
-use Rattle.dsm_top.specs.declared.prepare.SmallRun.{SmallRun}
-use Rattle.dsm_top.specs.Prepared.{Span, IsUnread, IsPart, Keeps, RefusesIn, IsPrepared}
+use Rattle.dsm_command.specs.Commands.{Command}
+use Rattle.dsm_top.specs.Accepted.{Contents, HasChecked, HasFitting, HasPicks, HasSchedule}
+use Rattle.dsm_top.specs.Refusals.{Given, FilesRose, RefusesSchedule, RefusesForm, RefusesRun, RefusesProgram, RefusesPicks, RefusesOwner, RefusesCheck, RefusesPlain, OrMemory}
+use Rattle.dsm_top.specs.Prepared.{Span, IsUnread, IsPart, Keeps, RefusesIn}
 
 -- Out of memory owes nothing.
 
@@ -106,27 +104,3 @@ pub plain_owner : (given : Given) (program picks : List ℕ) (found : Program) (
 plain_owner given program picks found procs entries status has has_picks is =
     or_memory (RefusesPlain given program picks) status
     (inr (inr record { procs = procs; entries = entries; has_picks = has_picks; refused = record { found = found; has_program = has; refused = is } }))
-
--- Flags of `run`.
-
-module _ (files : Contents) (before after : ℕ) (program schedule : List ℕ) where
-  abbrev flagged : Bool → Bool → Given
-  flagged trace state = record { command = Some (run program schedule trace state); files = files; faults_before = before; faults_after = after }
-
-  -- with `--state` it is refused
-  pub refused_state : (trace state : Bool) (status : Status) → state ≡ true → status ≡ Status.WordsRefused →
-      RefusesOrMemory record { command = Some (run program schedule trace state); files = files; faults_before = before; faults_after = after } status
-  refused_state trace true status flag is = subst (RefusesOrMemory (flagged trace true)) (sym is) refl
-  refused_state trace false status flag is = absurd (cc)
-
-  -- without it it is refused as `run` is
-  pub refused_run : (trace state : Bool) (status : Status) → state ≡ false → RefusesIn record { files = files; before = before; after = after } (λ given. RefusesRun given program schedule) status →
-      RefusesOrMemory record { command = Some (run program schedule trace state); files = files; faults_before = before; faults_after = after } status
-  refused_run trace true status flag is = absurd (cc)
-  refused_run trace false status flag is = is (flagged trace false) (whole_part (Some (run program schedule trace false)) files before after)
-
--- and it is prepared
-pub prepared_run : (files : Contents) (program schedule : List ℕ) (trace state : Bool) (prepared : SmallRun) → state ≡ false → prepared.trace ≡ trace → IsAccepted files program schedule prepared.program prepared.schedule.procs prepared.schedule.entries →
-    IsPrepared files (Some (run program schedule trace state)) (Prepared.Run prepared)
-prepared_run files program schedule trace true prepared flag same is = absurd (cc)
-prepared_run files program schedule trace false prepared flag same is = (same, is)

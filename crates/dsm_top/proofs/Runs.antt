@@ -1,5 +1,5 @@
 -- What a run leaves.
-use Rattle.std.specs.Prelude.{◌≡◌, ◌≤◌, ℕ, Bool, List, [], ◌∷◌, ◌++◌, length, take, reverse, Option, Result, Ok, Err, IfOk, IsTrue}
+use Rattle.std.specs.Prelude.{◌≡◌, ◌≤◌, ℕ, List, [], ◌∷◌, ◌++◌, length, take, reverse, Option, Result, Ok, Err, IfOk, IsTrue}
 use Rattle.std.proofs.Common.{refl, sym, ap, ◌∙◌, arith, subst, inl, inr}
 use Rattle.dsm_base.specs.Causes.{Rose, IfFailed}
 use Rattle.dsm_base.specs.declared.errors.ReadErr.{ReadErr}
@@ -18,18 +18,20 @@ use Rattle.dsm_base.specs.Endings.{endings_of, finished_by}
 use Rattle.dsm_base.specs.Output.{printed_lines}
 use Rattle.dsm_base.specs.Plain.{labels_of}
 use Rattle.dsm_net.specs.declared.trace.Group.{Group}
-use Rattle.dsm_net.specs.Fits.{IsWithin, FitsUnits, run_of}
+use Rattle.dsm_net.specs.Fits.{IsWithin, Done, FitsUnits, acts_of, run_of}
 use Rattle.dsm_net.specs.Story.{history, own_turns_of, labels_of_turns}
 use Rattle.dsm_laws_protocol.specs.Holding.{AreWithin}
 use Rattle.dsm_laws_protocol.specs.OwnParts.{HasOwnParts}
 use Rattle.dsm_laws_history.specs.Output.{output_of}
 use Rattle.dsm_network.specs.World.{setup_of, groups_of, units_of, net_of, ending_at}
 use Rattle.dsm_top.specs.declared.status.Status.{Status}
-use Rattle.dsm_top.specs.Lawful.{IsLawful}
-use Rattle.dsm_top.specs.Ended.{Left, TakesFront, IsRun, Ran}
-use Rattle.dsm_top.specs.Runs.{SmallWorld, first_by, small_kind, first_in, IsMadeBy, FitsFirst, WroteCut, WroteCutShowing}
+use Rattle.dsm_top.specs.Lawful.{IsLawful, AreLawful}
+use Rattle.dsm_top.specs.declared.shown.Asked.{Asked}
+use Rattle.dsm_top.specs.Ended.{Left, TakesFront, IsRun, Ran, shown_after}
+use Rattle.dsm_top.specs.Runs.{SmallWorld, first_by, small_kind, first_in, IsMadeBy, HasAll, FitsFirst, WroteCutShowing, shown_of}
 use Rattle.dsm_top.specs.Shown.{shown_by}
 use Rattle.dsm_top.specs.Statuses.{status_of_finished, status_of_write}
+use Rattle.dsm_top.proofs.Applied.{made_fits}
 use Rattle.dsm_top.proofs.Pieces.{appended-nil}
 use Rattle.dsm_top.proofs.Endings.{endings_are}
 use Rattle.dsm_top.proofs.Units.{all_front}
@@ -40,6 +42,12 @@ use Rattle.dsm_top.proofs.Went.{went_showing}
 abbrev pub Law : Type 0
 Law = (program : SmallProgram) (setup : Setup) (acts : List Act) (trace : List Group) (fits : FitsUnits setup (small_first program setup.procs) small_semantics acts trace) → AreWithin setup acts →
     IsLawful setup (small_first program setup.procs) small_semantics (run_of setup (small_first program setup.procs) small_semantics fits.done).net trace
+
+-- a run is lawful after each unit of it
+pub all_lawful : (program : SmallProgram) (setup : Setup) (law : Law) (done : List Done) → AreWithin setup (acts_of done) → AreLawful setup (small_first program setup.procs) small_semantics done
+all_lawful program setup law [] within = law program setup [] [] record { done = []; same_acts = refl; is_trace = refl } within
+all_lawful program setup law (one ∷ before) within =
+    (law program setup (acts_of (one ∷ before)) _ record { done = one ∷ before; same_acts = refl; is_trace = refl } within, all_lawful program setup law before within.1)
 
 abbrev pub Output : Type 0
 Output = (setup : Setup) (first : ℕ → SmallState) (acts : List Act) (trace : List Group) → FitsUnits setup first small_semantics acts trace → output_of trace ≡ printed_lines (history trace)
@@ -62,36 +70,43 @@ world_endings own labels schedule world made p =
 
 module _ (program : SmallProgram) (procs : ℕ) (count : IsTrue (is_proc_count procs)) (schedule : List Act) (law : Law) (all_within : AreWithin (small_setup program procs count) schedule) where
   -- a front of the schedule, as the laws have it
-  pub is_run : (units : ℕ) (trace : List Group) → units ≤ length schedule → FitsUnits (small_setup program procs count) (small_first program procs) small_semantics (reverse (take units schedule)) trace → IsRun program procs count schedule units trace
+  abbrev pub is_run : (units : ℕ) (trace : List Group) → units ≤ length schedule → FitsUnits (small_setup program procs count) (small_first program procs) small_semantics (reverse (take units schedule)) trace → IsRun program procs count schedule units trace
   is_run units trace within fits = record {
     within = within;
     fits = fits;
-    lawful = law program (small_setup program procs count) (reverse (take units schedule)) trace fits (all_front (IsWithin (small_setup program procs count)) schedule units all_within);
+    lawful = all_lawful program (small_setup program procs count) law fits.done
+        (subst (AreWithin (small_setup program procs count)) (sym fits.same_acts) (all_front (IsWithin (small_setup program procs count)) schedule units all_within));
   }
 
-  module _ (output : Output) (asked : Bool) (world : SmallWorld) (left : Left) (setup : setup_of world ≡ small_setup program procs count) (first : first_in world ≡ small_first program procs)
-      (within : units_of world ≤ length schedule) (fits : FitsFirst world schedule) (trace : left.trace ≡ groups_of world) (units : left.units ≡ units_of world) where
-    run : IsRun program procs count schedule left.units left.trace
-    run =
-        let at_setup = subst (λ s. FitsUnits s (first_in world) small_semantics (reverse (take (units_of world) schedule)) (groups_of world)) setup fits in
-        let at_first = subst (λ f. FitsUnits (small_setup program procs count) f small_semantics (reverse (take (units_of world) schedule)) (groups_of world)) first at_setup in
-        let at_units = subst (λ n. FitsUnits (small_setup program procs count) (small_first program procs) small_semantics (reverse (take n schedule)) (groups_of world)) (sym units) at_first in
-        let at_trace = subst (λ t. FitsUnits (small_setup program procs count) (small_first program procs) small_semantics (reverse (take left.units schedule)) t) (sym trace) at_units in
-        is_run left.units left.trace (omega (arith, within, units)) at_trace
+  module _ (output : Output) (asked : Asked) (world : SmallWorld) (left : Left) (setup : setup_of world ≡ small_setup program procs count) (first : first_in world ≡ small_first program procs)
+      (within : units_of world ≤ length schedule) (trace : left.trace ≡ groups_of world) (units : left.units ≡ units_of world) where
+    -- the same units, where the setup and the first states are named otherwise
+    same_run : (done : List Done) → run_of (small_setup program procs count) (small_first program procs) small_semantics done ≡ run_of (setup_of world) (first_in world) small_semantics done
+    same_run done = (λ i. run_of (sym setup i) (sym first i) small_semantics done)
+
+    abbrev run : FitsFirst world schedule → IsRun program procs count schedule left.units left.trace
+    run fits = is_run left.units left.trace (omega (arith, within, units)) record {
+      done = fits.done;
+      same_acts = fits.same_acts ∙ ap (λ n. reverse (take n schedule)) (sym units);
+      is_trace = ap (λ ran. ran.groups) (same_run fits.done) ∙ (fits.is_trace ∙ sym trace);
+    }
 
     -- what went out is what the history prints
-    out : output_of (groups_of world) ≡ printed_lines (history left.trace)
-    out =
+    out : FitsFirst world schedule → output_of (groups_of world) ≡ printed_lines (history left.trace)
+    out fits =
         output (setup_of world) (first_in world) (reverse (take (units_of world) schedule)) (groups_of world) fits
         ∙ ap (λ t. printed_lines (history t)) (sym trace)
 
     -- with what was asked for behind it
-    shown : output_of (groups_of world) ++ shown_by asked (groups_of world) ≡ printed_lines (history left.trace) ++ shown_by asked left.trace
-    shown = (λ i. out i ++ shown_by asked (sym trace i))
+    shown : (made : IsMadeBy schedule world) → output_of (groups_of world) ++ shown_of asked world ≡ printed_lines (history left.trace) ++ shown_after asked (run (made_fits world schedule made))
+    shown made =
+        let printed = out (made_fits world schedule made) in
+        let net_is = ap (λ ran. ran.net) (sym made.run.ran) ∙ ap (λ ran. ran.net) (sym (same_run made.done)) in
+        (λ i. printed i ++ shown_by asked (setup i) (net_is i) (sym trace i))
 
     pub ran_whole : (own : OwnParts) (labels : OwnLabels) (made : IsMadeBy schedule world) (finished : Finished) (status : Status) →
         finished ≡ finished_by (setup_of world).procs (λ p. ending_at ((net_of small_kind first_by world).processors p)) → status ≡ status_of_finished finished →
-        units_of world ≡ length schedule → left.after ≡ appended left.before (output_of (groups_of world) ++ shown_by asked (groups_of world)) → Ran program procs schedule asked left status
+        units_of world ≡ length schedule → left.after ≡ appended left.before (output_of (groups_of world) ++ shown_of asked world) → Ran program procs schedule asked left status
     ran_whole own labels made finished status is named all wrote =
         let same : finished_by (setup_of world).procs (λ p. ending_at ((net_of small_kind first_by world).processors p)) ≡ finished_by (setup_of world).procs (endings_of (history (groups_of world))) =
         (λ i. finished_by (setup_of world).procs (λ p. world_endings own labels schedule world made p i)) in
@@ -99,25 +114,25 @@ module _ (program : SmallProgram) (procs : ℕ) (count : IsTrue (is_proc_count p
         ap (λ t. finished_by procs (endings_of (history t))) trace ∙ (ap (λ (s : Setup). finished_by s.procs (endings_of (history (groups_of world)))) (sym setup) ∙ (sym same ∙ sym is)) in
         record {
           count = count;
-          is_run = run;
-          went = went_showing (length schedule) (finished_by procs (endings_of (history left.trace))) finished (printed_lines (history left.trace)) (shown_by asked left.trace) left status stands named
-              (units ∙ all) (wrote ∙ ap (appended left.before) shown);
+          is_run = run (made_fits world schedule made);
+          went = went_showing (length schedule) (finished_by procs (endings_of (history left.trace))) finished (printed_lines (history left.trace)) (shown_after asked (run (made_fits world schedule made))) left status stands named
+              (units ∙ all) (wrote ∙ ap (appended left.before) (shown made));
         }
 
     -- what the sink has where the run was cut short
-    pub cut_by : (error : ReadErr) → WroteCutShowing left.before left.after (output_of (groups_of world)) (shown_by asked (groups_of world)) (units_of world ≡ length schedule) error
+    pub cut_by : (fits : FitsFirst world schedule) (error : ReadErr) → WroteCutShowing left.before left.after (output_of (groups_of world)) (shown_of asked world) (HasAll schedule world) error
         → IfFailed error (Rose left.faults_before left.faults_after) → Ran program procs schedule asked left (status_of_write error)
-    cut_by ReadErr.Failed (inl part) rose =
-        record { count = count; is_run = run; went = inl record { part = subst (TakesPart left.before left.after) out part; rose = rose } }
-    cut_by ReadErr.Failed (inr behind) rose =
-        record { count = count; is_run = run; went = inr (units ∙ behind.0, record { part = subst (TakesPart left.before left.after) shown behind.1; rose = rose }) }
-    cut_by ReadErr.Memory (inl front) rose =
-        record { count = count; is_run = run; went = inl (subst (TakesFront left.before left.after) out front) }
-    cut_by ReadErr.Memory (inr behind) rose =
-        record { count = count; is_run = run; went = inr (units ∙ behind.0, subst (TakesPart left.before left.after) shown behind.1) }
+    cut_by fits ReadErr.Failed (inl part) rose =
+        record { count = count; is_run = run fits; went = inl record { part = subst (TakesPart left.before left.after) (out fits) part; rose = rose } }
+    cut_by fits ReadErr.Failed (inr behind) rose =
+        record { count = count; is_run = run (made_fits world schedule behind.0.made); went = inr (units ∙ behind.0.all, record { part = subst (TakesPart left.before left.after) (shown behind.0.made) behind.1; rose = rose }) }
+    cut_by fits ReadErr.Memory (inl front) rose =
+        record { count = count; is_run = run fits; went = inl (subst (TakesFront left.before left.after) (out fits) front) }
+    cut_by fits ReadErr.Memory (inr behind) rose =
+        record { count = count; is_run = run (made_fits world schedule behind.0.made); went = inr (units ∙ behind.0.all, subst (TakesPart left.before left.after) (shown behind.0.made) behind.1) }
 
   -- nothing was applied
-  pub ran_none : (asked : Bool) (before : Option (List ℕ)) (faults_before faults_after : ℕ) →
+  pub ran_none : (asked : Asked) (before : Option (List ℕ)) (faults_before faults_after : ℕ) →
       Ran program procs schedule asked record { before = before; after = before; faults_before = faults_before; faults_after = faults_after; trace = []; units = 0 } Status.Memory
   ran_none asked before faults_before faults_after = record {
     count = count;

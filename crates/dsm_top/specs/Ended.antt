@@ -1,5 +1,5 @@
 -- How a call ended, and what it left.
-use Rattle.std.specs.Prelude.{◌≡◌, ◌⊎◌, ℕ, ◌≤◌, Bool, false, List, [], ◌∷◌, ◌++◌, length, take, reverse, Option, Some, codes, IsTrue}
+use Rattle.std.specs.Prelude.{◌≡◌, ◌⊎◌, ℕ, ◌≤◌, List, [], ◌∷◌, ◌++◌, length, take, reverse, Option, Some, codes, IsTrue}
 use Rattle.dsm_base.specs.Causes.{Rose}
 use Rattle.dsm_base.specs.Output.{printed_lines}
 use Rattle.dsm_base.specs.Sink.{appended, TakesPart}
@@ -22,11 +22,12 @@ use Rattle.dsm_base.specs.Endings.{endings_of, finished_by}
 use Rattle.dsm_base.specs.Setups.{is_proc_count}
 use Rattle.dsm_top.specs.declared.status.Status.{Status}
 use Rattle.dsm_top.specs.declared.status.Report.{Report}
+use Rattle.dsm_top.specs.declared.shown.Asked.{Asked}
 use Rattle.dsm_command.specs.Commands.{Command, run, check, plain}
 use Rattle.dsm_top.specs.Messages.{message_of}
 use Rattle.dsm_top.specs.Shown.{shown_by}
 use Rattle.dsm_top.specs.Statuses.{status_of_finished}
-use Rattle.dsm_top.specs.Lawful.{IsLawful}
+use Rattle.dsm_top.specs.Lawful.{AreLawful}
 use Rattle.dsm_top.specs.Accepted.{IsAccepted, HasFitting, HasPicks}
 use Rattle.dsm_top.specs.PickRuns.{IsRunByPicks}
 use Rattle.dsm_top.specs.Refusals.{Given, Refuses}
@@ -126,26 +127,34 @@ pub record IsRun (program : SmallProgram) (procs : ℕ) (count : IsTrue (is_proc
   pub within : units ≤ length schedule
   pub fits : FitsUnits (small_setup program procs count) (small_first program procs) small_semantics
       (reverse (take units schedule)) trace
-  pub lawful : IsLawful (small_setup program procs count) (small_first program procs) small_semantics
-      (run_of (small_setup program procs count) (small_first program procs) small_semantics
-      fits.done).net trace
+  pub lawful : AreLawful (small_setup program procs count) (small_first program procs) small_semantics
+      fits.done
 
--- what a run of a program by a schedule for so many processors leaves, with or without its trace
-pub record Ran (program : SmallProgram) (procs : ℕ) (schedule : List Act) (trace : Bool) (left : Left)
+-- what is asked for behind the lines of a run: the texts of its trace and of the state after it
+abbrev pub shown_after : {program : SmallProgram} {procs : ℕ} {count : IsTrue (is_proc_count procs)}
+    {schedule : List Act} {units : ℕ} {trace : List Group} →
+    Asked → IsRun program procs count schedule units trace → List ℕ
+shown_after {program} {procs} {count} {schedule} {units} {trace} asked is_run =
+    shown_by asked (small_setup program procs count)
+    (run_of (small_setup program procs count) (small_first program procs) small_semantics
+    is_run.fits.done).net trace
+
+-- what a run of a program by a schedule for so many processors leaves, with what was asked for
+pub record Ran (program : SmallProgram) (procs : ℕ) (schedule : List Act) (asked : Asked) (left : Left)
     (status : Status) : Type 0 where
   pub count : IsTrue (is_proc_count procs)
   pub is_run : IsRun program procs count schedule left.units left.trace
   pub went : WentShowing (length schedule) (finished_by procs (endings_of (history left.trace)))
-      (printed_lines (history left.trace)) (shown_by trace left.trace) left status
+      (printed_lines (history left.trace)) (shown_after asked is_run) left status
 
 -- `run`, with a program and a schedule that are accepted
-pub record EndedRun (given : Given) (program schedule : List ℕ) (trace : Bool) (left : Left)
+pub record EndedRun (given : Given) (program schedule : List ℕ) (asked : Asked) (left : Left)
     (status : Status) : Type 0 where
   pub small : SmallProgram
   pub procs : ℕ
   pub entries : List Entry
   pub accepted : IsAccepted given.files program schedule small procs entries
-  pub ran : Ran small procs (units_by procs entries) trace left status
+  pub ran : Ran small procs (units_by procs entries) asked left status
 
 -- `check`.
 
@@ -206,10 +215,10 @@ pub record Refused (given : Given) (left : Left) (status : Status) : Type 0 wher
 
 -- Any call.
 
--- what the command is for was done; `run` has no `--state` yet, and `load` isn't built
+-- what the command is for was done; `load` isn't built
 abbrev pub EndedCommand : Given → Left → Status → Option Command → Type 0
-EndedCommand given left status (Some (run program schedule trace false)) =
-    EndedRun given program schedule trace left status
+EndedCommand given left status (Some (run program schedule trace state)) =
+    EndedRun given program schedule record { trace = trace; state = state } left status
 EndedCommand given left status (Some (check program procs)) = EndedCheck given program procs left status
 EndedCommand given left status (Some (plain program picks)) = EndedPlain given program picks left status
 EndedCommand given left status _ = ⊥

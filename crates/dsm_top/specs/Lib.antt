@@ -6,6 +6,7 @@ pub mod Messages
 pub mod Accepted
 pub mod PickRuns
 pub mod Refusals
+pub mod StateTexts
 pub mod Lawful
 pub mod Ended
 pub mod Runs

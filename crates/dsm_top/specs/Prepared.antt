@@ -1,5 +1,5 @@
 -- What stands ready before anything is written.
-use Rattle.std.specs.Prelude.{◌≡◌, ◌≤◌, ℕ, false, List, Option, Some, Result, Ok, Err}
+use Rattle.std.specs.Prelude.{◌≡◌, ◌≤◌, ℕ, List, Option, Some, Result, Ok, Err}
 use Rattle.dsm_base.specs.Causes.{Rose}
 use Rattle.dsm_syntax.specs.declared.errors.ProgErr.{ProgErr}
 use Rattle.dsm_check.specs.declared.checked.Checked.{Checked}
@@ -62,9 +62,10 @@ IsReady (Prepared.Plain prepared) = CanPick prepared
 
 -- what a command names is accepted, and this stands ready for it
 abbrev pub IsPrepared : Contents → Option Command → Prepared → Type 0
-IsPrepared files (Some (run program schedule trace false)) (Prepared.Run prepared) =
-    (prepared.trace ≡ trace) × IsAccepted files program schedule
-    prepared.program prepared.schedule.procs prepared.schedule.entries
+IsPrepared files (Some (run program schedule trace state)) (Prepared.Run prepared) =
+    (prepared.asked ≡ record { trace = trace; state = state })
+    × IsAccepted files program schedule prepared.program prepared.schedule.procs
+    prepared.schedule.entries
 IsPrepared files (Some (check program procs)) Prepared.Check =
     (found : Program) × HasFitting files program procs found
 IsPrepared files (Some (plain program picks)) (Prepared.Plain prepared) =

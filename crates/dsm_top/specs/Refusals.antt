@@ -1,5 +1,5 @@
 -- Why a call is refused before anything runs.
-use Rattle.std.specs.Prelude.{◌≡◌, ◌≢◌, ◌⊎◌, ℕ, true, false, List, Option, Some, None, Result, Ok, Err, zero, suc}
+use Rattle.std.specs.Prelude.{◌≡◌, ◌≢◌, ◌⊎◌, ℕ, List, Option, Some, None, Result, Ok, Err, zero, suc}
 use Rattle.dsm_base.specs.Causes.{Rose}
 use Rattle.dsm_base.specs.declared.act.SchedErr.{SchedErr}
 use Rattle.dsm_syntax.specs.declared.errors.ProgErr.{ProgErr}
@@ -181,9 +181,8 @@ RefusesRun given program schedule status =
 -- why a call is refused: of words that are no command, of a command, and of one that isn't built yet
 abbrev pub RefusesCommand : Given → Status → Option Command → Type 0
 RefusesCommand given status None = status ≡ Status.WordsRefused
-RefusesCommand given status (Some (run program schedule trace false)) =
+RefusesCommand given status (Some (run program schedule trace state)) =
     RefusesRun given program schedule status
-RefusesCommand given status (Some (run program schedule trace true)) = status ≡ Status.WordsRefused
 RefusesCommand given status (Some (check program procs)) = RefusesCheck given program procs status
 RefusesCommand given status (Some (plain program picks)) = RefusesPlain given program picks status
 RefusesCommand given status (Some (load seed)) = status ≡ Status.WordsRefused

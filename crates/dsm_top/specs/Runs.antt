@@ -1,5 +1,5 @@
 -- Worlds of small programs, and what is written of them.
-use Rattle.std.specs.Prelude.{◌≡◌, ◌⊎◌, ℕ, List, [], ◌∷◌, ◌++◌, take, reverse, Option}
+use Rattle.std.specs.Prelude.{◌≡◌, ◌⊎◌, ℕ, List, [], ◌∷◌, ◌++◌, length, take, reverse, Option}
 use Rattle.dsm_base.specs.declared.act.Act.{Act}
 use Rattle.dsm_base.specs.declared.errors.ReadErr.{ReadErr}
 use Rattle.dsm_base.specs.Sink.{TakesPart}
@@ -10,8 +10,10 @@ use Rattle.dsm_small.specs.declared.thread.SmallThread.{SmallThread}
 use Rattle.dsm_small.specs.declared.state.SmallState.{SmallState}
 use Rattle.dsm_small.specs.Meaning.{small_first, small_semantics}
 use Rattle.dsm_network.specs.declared.world.World.{World}
-use Rattle.dsm_network.specs.World.{setup_of, first_of, groups_of, units_of, IsRunOf, IsWhole}
+use Rattle.dsm_network.specs.World.{setup_of, first_of, groups_of, units_of, net_of, IsRunOf, IsWhole}
+use Rattle.dsm_top.specs.declared.shown.Asked.{Asked}
 use Rattle.dsm_top.specs.Ended.{TakesFront}
+use Rattle.dsm_top.specs.Shown.{shown_by}
 
 -- a world of small threads
 abbrev pub SmallWorld : Type 0
@@ -38,6 +40,16 @@ pub record IsMadeBy (schedule : List Act) (world : SmallWorld) : Type 0 where
   pub done : List Done
   pub acts : acts_of done ≡ reverse (take (units_of world) schedule)
   pub run : IsRunOf small_kind first_by done world
+
+-- all units were applied, and made what the world holds
+pub record HasAll (schedule : List Act) (world : SmallWorld) : Type 0 where
+  pub all : units_of world ≡ length schedule
+  pub made : IsMadeBy schedule world
+
+-- what is asked for behind the lines of a world
+abbrev pub shown_of : Asked → SmallWorld → List ℕ
+shown_of asked world =
+    shown_by asked (setup_of world) (net_of small_kind first_by world) (groups_of world)
 
 -- the trace fits the first units of a schedule, as many as were applied
 abbrev pub FitsFirst : SmallWorld → List Act → Type 0

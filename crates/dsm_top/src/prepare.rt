@@ -1,6 +1,6 @@
 //! What stands before a run: programs, schedules and lists of picks from their files.
 
-ghost use Rattle.std.specs.Prelude.{◌≡◌, true, false, Some, Ok, string_bytes, IfOk, IfErr, MatchResult};
+ghost use Rattle.std.specs.Prelude.{◌≡◌, Some, Ok, string_bytes, IfOk, IfErr, MatchResult};
 ghost use Rattle.dsm_check.specs.CheckedViews.{program_of};
 ghost use Rattle.dsm_check.specs.Setups.{fitting};
 ghost use Rattle.dsm_top.specs.Accepted.{IsText, IsProgramText, IsChecked, HasSchedule, IsAccepted, HasFitting, HasPicks};
@@ -9,6 +9,7 @@ ghost use Rattle.dsm_top.specs.Refusals.{given_by, RefusesSchedule, RefusesRun, 
 ghost use Rattle.dsm_top.specs.Prepared.{span_of, IsUnread, RefusesIn, Keeps, CanPick, IsReady, IsPrepared};
 
 use crate::program::{read_checked, read_program};
+use crate::shown::Asked;
 use crate::status::Status;
 use dsm_base::{Files, ReadErr};
 use dsm_check::{Checked, fit};
@@ -23,8 +24,7 @@ use std::alloc::Global;
 pub(crate) struct SmallRun {
     pub program: SmallProgram,
     pub schedule: Schedule,
-    /// Whether the trace's text is asked for.
-    pub trace: bool,
+    pub asked: Asked,
 }
 
 /// A program and a list of picks that are accepted.
@@ -126,27 +126,16 @@ fn test_owners(program: &Checked, procs: u8) -> Result<(), Status>
     fit(program, procs).map_err(Status::ProgramRefused)
 }
 
-/// The state's text isn't built yet.
-fn test_state(state: bool) -> Result<(), Status>
-    ensures { MatchResult result (λ _. state ≡ false)
-        (λ status. (state ≡ true) × (status ≡ Status.WordsRefused)) }
-{
-    if state {
-        return Err(Status::WordsRefused);
-    }
-    Ok(())
-}
-
 /// Reads the program and the schedule of `run`, tests the owners, and then whether the program is of
 /// the small form.
 fn prepare_run<F: Files>(
     alloc: Global,
     program: &String,
     schedule: &String,
-    trace: bool,
+    asked: Asked,
     files: &mut F,
 ) -> Result<SmallRun, Status>
-    ensures trace { IfOk result (λ prepared. prepared.trace ≡ trace) }
+    ensures asked { IfOk result (λ prepared. prepared.asked ≡ asked) }
     ensures accepted { IfOk result (λ prepared. IsAccepted (F.files_hold files.old)
         (string_bytes program.now) (string_bytes schedule.now)
         prepared.program prepared.schedule.procs prepared.schedule.entries) }
@@ -161,7 +150,7 @@ fn prepare_run<F: Files>(
     Ok(SmallRun {
         program,
         schedule,
-        trace,
+        asked,
     })
 }
 
@@ -207,8 +196,7 @@ fn prepare_plain<F: Files>(
     })
 }
 
-/// Reads what a command names. `WordsRefused` for one that isn't built yet: `run` with `--state`, and
-/// `load`.
+/// Reads what a command names. `WordsRefused` for one that isn't built yet: `load`.
 pub(crate) fn prepare<F: Files>(
     alloc: Global,
     command: &Command,
@@ -228,8 +216,11 @@ pub(crate) fn prepare<F: Files>(
             trace,
             state,
         } => {
-            test_state(*state)?;
-            Ok(Prepared::Run(prepare_run(alloc, program, schedule, *trace, files)?))
+            let asked = Asked {
+                trace: *trace,
+                state: *state,
+            };
+            Ok(Prepared::Run(prepare_run(alloc, program, schedule, asked, files)?))
         }
         Command::Check { program, procs } => {
             prepare_check(alloc, program, *procs, files)?;

@@ -17,12 +17,11 @@ ghost use Rattle.dsm_small.specs.Meaning.{small_first, small_semantics};
 ghost use Rattle.dsm_top.specs.Lawful.{IsLawful};
 ghost use Rattle.dsm_small.specs.Setups.{small_setup};
 ghost use Rattle.dsm_top.specs.Ended.{left_by, Ran};
-ghost use Rattle.dsm_top.specs.Runs.{IsWholeWorld, small_kind, first_by, first_in, IsMadeBy, FitsFirst, IsSameRun, WroteCut, WroteCutShowing};
-ghost use Rattle.dsm_top.specs.Shown.{shown_by};
+ghost use Rattle.dsm_top.specs.Runs.{IsWholeWorld, small_kind, first_by, first_in, IsMadeBy, HasAll, FitsFirst, IsSameRun, WroteCut, WroteCutShowing, shown_of};
 
 use crate::lines::put_lines;
 use crate::prepare::SmallRun;
-use crate::shown::put_shown;
+use crate::shown::{Asked, put_shown};
 use crate::status::{Report, Status};
 use dsm_base::{MemFault, ReadErr, Sink};
 use dsm_laws_history::{
@@ -72,7 +71,7 @@ fn go_through<K: Sink>(
     alloc: Global,
     world: &mut World<SmallMaker>,
     schedule: &Schedule,
-    trace: bool,
+    asked: Asked,
     out: &mut K,
 ) -> Result<(), ReadErr>
     requires whole { IsWholeWorld world.old }
@@ -86,14 +85,14 @@ fn go_through<K: Sink>(
     ensures made { OnOk result (IsMadeBy (acts_of schedule.now) world.new) }
     ensures fits { FitsFirst world.new (acts_of schedule.now) }
     ensures wrote { OnOk result (K.sink_holds out.new ≡ appended (K.sink_holds out.old)
-        (output_of (groups_of world.new) ++ shown_by trace (groups_of world.new))) }
+        (output_of (groups_of world.new) ++ shown_of asked world.new)) }
     ensures cut { IfErr result (WroteCutShowing (K.sink_holds out.old) (K.sink_holds out.new)
-        (output_of (groups_of world.new)) (shown_by trace (groups_of world.new))
-        (units_of world.new ≡ length (acts_of schedule.now))) }
+        (output_of (groups_of world.new)) (shown_of asked world.new)
+        (HasAll (acts_of schedule.now) world.new)) }
     ensures cause { HasCause (K.sink_faults out.old) (K.sink_faults out.new) result }
 {
     apply_units(world, schedule, out)?;
-    put_shown(alloc, trace, world.trace(), out)
+    put_shown(alloc, asked, world, out)
 }
 
 /// The world of a program before its first unit.
@@ -133,10 +132,10 @@ fn laws()
     nobody_waits_in_vain::<SmallThread>();
 }
 
-/// Runs a program by a schedule, and puts its trace where that is asked for.
+/// Runs a program by a schedule, and puts what is asked for behind the lines.
 pub(crate) fn run<K: Sink>(alloc: Global, prepared: SmallRun, out: &mut K) -> Report
     ensures { Ran prepared.program prepared.schedule.procs (acts_of prepared.schedule)
-        prepared.trace (left_by K.sink_holds K.sink_faults out.old out.new result) result.status }
+        prepared.asked (left_by K.sink_holds K.sink_faults out.old out.new result) result.status }
 {
     laws();
     output::<SmallThread>();
@@ -144,7 +143,7 @@ pub(crate) fn run<K: Sink>(alloc: Global, prepared: SmallRun, out: &mut K) -> Re
     let Ok(mut world) = start(alloc, prepared.program, prepared.schedule.procs) else {
         return Report::untraced(alloc, Status::Memory, 0);
     };
-    let status = match go_through(alloc, &mut world, &prepared.schedule, prepared.trace, out) {
+    let status = match go_through(alloc, &mut world, &prepared.schedule, prepared.asked, out) {
         Ok(()) => Status::from(world.finished()),
         Err(error) => Status::from(error),
     };

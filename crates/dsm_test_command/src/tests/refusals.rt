@@ -1,7 +1,7 @@
 //! What is refused, in its order, and calls in which a read or a write fails.
 
 use crate::tests::called::{Called, Failed, are_right, fail_so};
-use crate::tests::programs::{ADDER, COUNTER, FIRST, OPEN, OVERLAP, OWNED};
+use crate::tests::programs::{ADDER, COUNTER, FIRST, NOTHING, OPEN, OVERLAP, OWNED};
 use dsm_base::CallKind;
 use std::test::Fail;
 
@@ -42,14 +42,6 @@ fn refusals_come_in_their_order(rt: HostRuntime) -> Result<(), Fail> {
         },
         Called {
             words: "run prog other other",
-            program: ADDER,
-            other: FIRST,
-            status: 5,
-            units: 0,
-            written: "dsm: words refused\n",
-        },
-        Called {
-            words: "run prog other --state",
             program: ADDER,
             other: FIRST,
             status: 5,
@@ -306,6 +298,30 @@ fn failures_leave_a_part(rt: HostRuntime) -> Result<(), Fail> {
             },
             kind: CallKind::Put,
             nth: 3,
+        },
+        Failed {
+            call: Called {
+                words: "run prog other --state",
+                program: ADDER,
+                other: FIRST,
+                status: 7,
+                units: 21,
+                written: "P0: x=1\nP1: x=12\n",
+            },
+            kind: CallKind::Put,
+            nth: 3,
+        },
+        Failed {
+            call: Called {
+                words: "run prog other --state --trace",
+                program: NOTHING,
+                other: "procs 2\nfinish 1\n",
+                status: 7,
+                units: 4,
+                written: "--\nunit 1\nturn 0 1 end\nunit 3\nturn 1 1 end\n",
+            },
+            kind: CallKind::Put,
+            nth: 2,
         },
         Failed {
             call: Called {

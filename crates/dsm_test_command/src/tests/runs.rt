@@ -125,6 +125,46 @@ fn a_trace_comes_behind_the_lines(rt: HostRuntime) -> Result<(), Fail> {
 }
 
 #[test]
+fn the_state_comes_last(rt: HostRuntime) -> Result<(), Fail> {
+    const TABLE: &[Called] = &[
+        Called {
+            words: "run prog other --state",
+            program: ADDER,
+            other: FIRST,
+            status: 0,
+            units: 21,
+            written: "P0: x=1\nP1: x=12\n--\nP0 turn 8 end\nP1 turn 8 end\nlock 0 version 2 cells 0=12\n",
+        },
+        // The home's values are those of the last hold that was given back.
+        Called {
+            words: "run prog other --state",
+            program: ADDER,
+            other: "procs 2\nstep 0 4\nstep 1\n",
+            status: 2,
+            units: 5,
+            written: "--\nP0 turn 4 running\nP1 turn 1 running\nlock 0 version 0 cells 0=0\n",
+        },
+        Called {
+            words: "run prog other --state",
+            program: STORED,
+            other: "procs 2\nstep 1\n",
+            status: 2,
+            units: 1,
+            written: "P1: fault unbound line 5\n--\nP0 turn 0 running\nP1 turn 1 stop unbound 5\nlock 0 version 0 cells 0=0\n",
+        },
+        Called {
+            words: "run --state prog other --trace",
+            program: NOTHING,
+            other: "procs 2\ndeliver 0 1\nfinish 1\n",
+            status: 0,
+            units: 5,
+            written: "--\nunit 2\nturn 0 1 end\nunit 4\nturn 1 1 end\n--\nP0 turn 1 end\nP1 turn 1 end\n",
+        },
+    ];
+    are_right(&rt, rt.alloc(), TABLE)
+}
+
+#[test]
 fn schedules_are_refused(rt: HostRuntime) -> Result<(), Fail> {
     const TABLE: &[Called] = &[
         Called {

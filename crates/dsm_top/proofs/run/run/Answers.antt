@@ -35,10 +35,10 @@ returns g c =
     elim c.match-go_through.branch [
       | in-Ok-go_through w ↦
           rw (w.status-is)
-          (ran_whole program procs count schedule c.laws.ensures units_within c.output.ensures c.args.prepared.trace world left setup first c.go_through.ensures.count c.go_through.ensures.fits c.into_trace.ensures c.units-units.ensures c.own_parts.ensures.own c.own_parts.ensures.labels w.in-Ok-go_through.ensures.made w.finished.result w.from-status.result w.finished.ensures
+          (ran_whole program procs count schedule c.laws.ensures units_within c.output.ensures c.args.prepared.asked world left setup first c.go_through.ensures.count c.into_trace.ensures c.units-units.ensures c.own_parts.ensures.own c.own_parts.ensures.labels w.in-Ok-go_through.ensures.made w.finished.result w.from-status.result w.finished.ensures
           w.from-status.ensures w.in-Ok-go_through.ensures.all w.in-Ok-go_through.ensures.wrote)
       | in-Err w ↦ rw (w.status-is, w.from-status-in-Err.ensures)
-          (cut_by program procs count schedule c.laws.ensures units_within c.output.ensures c.args.prepared.trace world left setup first c.go_through.ensures.count c.go_through.ensures.fits c.into_trace.ensures c.units-units.ensures w.in-Err.error w.in-Err.ensures.cut w.in-Err.ensures.cause.rose)
+          (cut_by program procs count schedule c.laws.ensures units_within c.output.ensures c.args.prepared.asked world left setup first c.go_through.ensures.count c.into_trace.ensures c.units-units.ensures c.go_through.ensures.fits w.in-Err.error w.in-Err.ensures.cut w.in-Err.ensures.cause.rose)
     ]
 
 pub returns-in_default : goal.returns-in_default
@@ -48,4 +48,4 @@ returns-in_default g c =
     let count = some_procs schedule in
     let units_within = all_within (small_setup program schedule.procs count) schedule refl in
     rw (c.untraced.ensures)
-    (ran_none program schedule.procs count (acts_of schedule) c.laws.ensures units_within c.args.prepared.trace (g.K.Sink.sink_holds c.args.out.now) (g.K.Sink.sink_faults c.args.out.now) (g.K.Sink.sink_faults c.args.out.now))
+    (ran_none program schedule.procs count (acts_of schedule) c.laws.ensures units_within c.args.prepared.asked (g.K.Sink.sink_holds c.args.out.now) (g.K.Sink.sink_faults c.args.out.now) (g.K.Sink.sink_faults c.args.out.now))
