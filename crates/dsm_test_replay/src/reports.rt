@@ -24,6 +24,7 @@ fn lines(alloc: Global, of: &[(u32, i64)]) -> Result<LineList, MemFault> {
 /// What a report has, in short: a grant and a record of a lock (turn, lock, version), an opening
 /// (turn, barrier, epoch), versions of lock 0 with lines, and an arrival at barrier 0 that ends an
 /// epoch, with a line.
+#[derive(Clone, Copy)]
 struct Short {
     grant: Option<(u32, u16, u32)>,
     record: Option<(u32, u16, u32)>,
@@ -94,11 +95,15 @@ fn report(alloc: Global, short: &Short) -> Result<Report, MemFault> {
 fn replay(alloc: Global, first: &Short, second: &Short, printed: u32) -> Result<Replay, MemFault> {
     let mut gather = Gather::new(alloc, Proc(0), 3);
     let _ = gather.report(Proc(1), 6, report(alloc, first)?)?;
-    let _ = gather.report(Proc(2), 4, report(alloc, second)?)?;
+    let all = gather.report(Proc(2), 4, report(alloc, second)?)?;
+    if !all {
+        return Err(MemFault);
+    }
     Replay::new(gather, 2, printed)
 }
 
 /// From whom a report comes, how many turns its sender has seen, and whether all are in then.
+#[derive(Clone, Copy)]
 struct Coming {
     from: u8,
     seen: u32,
@@ -128,11 +133,6 @@ fn reports_of_all_others_are_waited_for(rt: HostRuntime) -> Result<(), Fail> {
             seen: 1,
             all: true,
         },
-        Coming {
-            from: 1,
-            seen: 7,
-            all: true,
-        },
     ];
     let mut gather = Gather::new(rt.alloc(), Proc(0), 3);
     for coming in COMINGS {
@@ -140,7 +140,11 @@ fn reports_of_all_others_are_waited_for(rt: HostRuntime) -> Result<(), Fail> {
         let all = gather.report(Proc(coming.from), coming.seen, told)?;
         assert_eq!(rt; all, coming.all);
     }
-    assert_eq!(rt; Replay::new(gather, 2, 3)?.bound(), 4);
+    let all = gather.report(Proc(1), 7, report(rt.alloc(), &NOTHING)?)?;
+    assert!(rt; all);
+    if all {
+        assert_eq!(rt; Replay::new(gather, 2, 3)?.bound(), 4);
+    }
     Ok(())
 }
 
@@ -152,6 +156,7 @@ fn the_bound_is_the_greatest_turn(rt: HostRuntime) -> Result<(), Fail> {
 }
 
 /// A turn, what is waited for in it, and what is answered.
+#[derive(Clone, Copy)]
 struct Answer {
     turn: u32,
     what: Waited,
@@ -228,7 +233,26 @@ fn a_turn_gets_what_was_reported_of_it(rt: HostRuntime) -> Result<(), Fail> {
     Ok(())
 }
 
+/// It has made versions 1 and 3.
+const ONE_AND_THREE: Short = Short {
+    versions: &[(1, &[(0, 1), (1, 2)]), (3, &[(0, 31)])],
+    grant: None,
+    record: None,
+    opening: None,
+    arrival: None,
+};
+
+/// It has made version 2.
+const TWO: Short = Short {
+    versions: &[(2, &[(0, 21), (4, 24)])],
+    grant: None,
+    record: None,
+    opening: None,
+    arrival: None,
+};
+
 /// The version that a take gets, the one that the copy has, and the lines that it brings.
+#[derive(Clone, Copy)]
 struct Brought {
     version: u32,
     have: u32,
@@ -270,21 +294,7 @@ fn a_take_brings_the_newest_of_each_line(rt: HostRuntime) -> Result<(), Fail> {
             lines: &[],
         },
     ];
-    let first = Short {
-        versions: &[(1, &[(0, 1), (1, 2)]), (3, &[(0, 31)])],
-        grant: None,
-        record: None,
-        opening: None,
-        arrival: None,
-    };
-    let second = Short {
-        versions: &[(2, &[(0, 21), (4, 24)])],
-        grant: None,
-        record: None,
-        opening: None,
-        arrival: None,
-    };
-    let replay = replay(rt.alloc(), &first, &second, 0)?;
+    let replay = replay(rt.alloc(), &ONE_AND_THREE, &TWO, 0)?;
     for row in BROUGHT {
         let input = Input::Take(Lock(0), row.version);
         let lines = shown(rt.alloc(), &replay.lines(input, row.have)?)?;
@@ -311,7 +321,7 @@ fn a_crossing_brings_the_lines_of_the_others(rt: HostRuntime) -> Result<(), Fail
     };
     let replay = replay(rt.alloc(), &first, &second, 0)?;
     let lines = shown(rt.alloc(), &replay.lines(Input::Cross(Bar(0), 1), 0)?)?;
-    assert_eq!(rt; lines.as_slice(), &[(1, 2), (2, 3)]);
+    assert_eq!(rt; lines.as_slice(), [(1, 2), (2, 3)].as_slice());
     assert!(rt; replay.lines(Input::Cross(Bar(0), 2), 0)?.is_empty());
     assert!(rt; replay.report(Proc(1)).is_some());
     assert!(rt; replay.report(Proc(0)).is_none());

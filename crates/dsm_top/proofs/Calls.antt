@@ -7,7 +7,7 @@ use Rattle.dsm_base.specs.Sink.{appended, TakesPart}
 use Rattle.dsm_top.specs.declared.status.Status.{Status}
 use Rattle.dsm_top.specs.declared.status.Report.{Report}
 use Rattle.dsm_top.specs.declared.prepare.Prepared.{Prepared}
-use Rattle.dsm_top.specs.declared.prepare.SmallRun.{SmallRun}
+use Rattle.dsm_top.specs.declared.prepare.ScheduledRun.{ScheduledRun}
 use Rattle.dsm_top.specs.declared.prepare.PickRun.{PickRun}
 use Rattle.dsm_check.specs.CheckedViews.{program_of}
 use Rattle.dsm_sched.specs.PickTexts.{picked}
@@ -15,9 +15,10 @@ use Rattle.dsm_sched.specs.ScheduleTexts.{units_of}
 use Rattle.dsm_check.specs.Programs.{Program}
 use Rattle.dsm_command.specs.Commands.{Command, run, check, plain, load}
 use Rattle.dsm_top.specs.Messages.{message_of, message_line, refusal_text, is_refusal}
-use Rattle.dsm_top.specs.Refusals.{Given, RefusesForm, RefusesSchedule, RefusesProgram, RefusesPicks, RefusesOwner, RefusesCommand, Refuses, RefusesOrMemory}
+use Rattle.dsm_top.specs.Refusals.{Given, RefusesSchedule, RefusesProgram, RefusesPicks, RefusesOwner, RefusesCommand, Refuses, RefusesOrMemory}
 use Rattle.dsm_top.specs.Prepared.{IsPrepared}
 use Rattle.dsm_top.specs.PlainRuns.{IsPicked}
+use Rattle.dsm_top.specs.Runs.{IsScheduled}
 use Rattle.dsm_top.specs.Statuses.{status_of_write}
 use Rattle.dsm_top.specs.Ended.{Left, Whole, Tells, ok_line, Ran, RanPlain, Refused, EndedCommand, Ended}
 
@@ -54,16 +55,11 @@ only_owner : (program : Program) (procs : ℕ) (status : Status) → RefusesOwne
 only_owner program procs (Status.ProgramRefused error) is = refl
 only_owner program procs _ is = absurd is
 
-only_form : (text : List ℕ) (status : Status) → RefusesForm text status → is_refusal status ≡ true
-only_form text (Status.ProgramRefused error) is = refl
-only_form text _ is = absurd is
-
 only_command : (given : Given) (status : Status) (command : Option Command) → RefusesCommand given status command → is_refusal status ≡ true
 only_command given status None is = ap is_refusal is
 only_command given status (Some (run program schedule trace state)) (inl is) = only_program given program status is
 only_command given status (Some (run program schedule trace state)) (inr (inl is)) = only_schedule given schedule status is.refused
-only_command given status (Some (run program schedule trace state)) (inr (inr (inl is))) = only_owner is.refused.found is.procs status is.refused.refused
-only_command given status (Some (run program schedule trace state)) (inr (inr (inr is))) = only_form is.has_fitting.has_program.text status is.refused
+only_command given status (Some (run program schedule trace state)) (inr (inr is)) = only_owner is.refused.found is.procs status is.refused.refused
 only_command given status (Some (load seed)) is = ap is_refusal is
 only_command given status (Some (check program procs)) (inl is) = only_program given program status is
 only_command given status (Some (check program procs)) (inr is) = only_owner is.found procs status is.refused
@@ -126,19 +122,21 @@ module _ (given : Given) (before after : Option (List ℕ)) (faults_before fault
 
 -- What a command that was prepared leaves.
 
-command_run : (given : Given) (prepared : SmallRun) (left : Left) (status : Status) (command : Option Command) → IsPrepared given.files command (Prepared.Run prepared) → Ran prepared.program prepared.schedule.procs (units_of prepared.schedule) prepared.asked left status
-    → EndedCommand given left status command
+command_run : (given : Given) (prepared : ScheduledRun) (left : Left) (status : Status) (command : Option Command) → IsPrepared given.files command (Prepared.Run prepared)
+    → Ran (program_of prepared.program) prepared.schedule.procs (units_of prepared.schedule) prepared.asked left status → EndedCommand given left status command
 command_run given prepared left status (Some (run program schedule trace state)) is ran = record {
-  small = prepared.program;
+  found = program_of prepared.program;
   procs = prepared.schedule.procs;
   entries = prepared.schedule.entries;
   accepted = is.1;
-  ran = subst (λ asked. Ran prepared.program prepared.schedule.procs (units_of prepared.schedule) asked left status) is.0 ran;
+  ran = subst (λ asked. Ran (program_of prepared.program) prepared.schedule.procs (units_of prepared.schedule) asked left status) is.0 ran;
 }
 command_run given prepared left status _ is ran = absurd is
 
-pub ended_run : (given : Given) (prepared : SmallRun) (left : Left) (status : Status) → IsPrepared given.files given.command (Prepared.Run prepared) → Ran prepared.program prepared.schedule.procs (units_of prepared.schedule) prepared.asked left status → Ended given left status
-ended_run given prepared left status is ran = inr (command_run given prepared left status given.command is ran)
+-- memory ran out before the first unit, or units were applied
+pub ended_run : (given : Given) (prepared : ScheduledRun) (left : Left) (status : Status) → IsPrepared given.files given.command (Prepared.Run prepared) → IsScheduled prepared left status → Ended given left status
+ended_run given prepared left status is (inl none) = inl record { no_trace = none.1; no_units = none.2; refused = inr none.0 }
+ended_run given prepared left status is (inr ran) = inr (command_run given prepared left status given.command is ran)
 
 command_check : (given : Given) (left : Left) (status : Status) (command : Option Command) → IsPrepared given.files command Prepared.Check → left.trace ≡ [] → left.units ≡ 0 → Tells ok_line Status.Done left status → EndedCommand given left status command
 command_check given left status (Some (check program procs)) is no_trace no_units checked =

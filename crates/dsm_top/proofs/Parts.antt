@@ -7,8 +7,8 @@ use Rattle.dsm_sched.specs.declared.picks.PickEntry.{PickEntry}
 use Rattle.dsm_sched.specs.declared.schedule.Entry.{Entry}
 use Rattle.dsm_top.specs.declared.status.Status.{Status}
 use Rattle.dsm_command.specs.Commands.{Command}
-use Rattle.dsm_top.specs.Accepted.{Contents, HasChecked, HasFitting, HasPicks, HasSchedule}
-use Rattle.dsm_top.specs.Refusals.{Given, FilesRose, RefusesSchedule, RefusesForm, RefusesRun, RefusesProgram, RefusesPicks, RefusesOwner, RefusesCheck, RefusesPlain, OrMemory}
+use Rattle.dsm_top.specs.Accepted.{Contents, HasChecked, HasPicks, HasSchedule}
+use Rattle.dsm_top.specs.Refusals.{Given, FilesRose, RefusesSchedule, RefusesRun, RefusesProgram, RefusesPicks, RefusesOwner, RefusesCheck, RefusesPlain, OrMemory}
 use Rattle.dsm_top.specs.Prepared.{Span, IsUnread, IsPart, Keeps, RefusesIn}
 
 -- Out of memory owes nothing.
@@ -77,13 +77,7 @@ pub run_owner : (given : Given) (program schedule : List ℕ) (found : Program) 
     → OrMemory (RefusesRun given program schedule) status
 run_owner given program schedule found procs entries status has has_schedule is =
     or_memory (RefusesRun given program schedule) status
-    (inr (inr (inl record { procs = procs; entries = entries; has_schedule = has_schedule; refused = record { found = found; has_program = has; refused = is } })))
-
-pub run_form : (given : Given) (program schedule : List ℕ) (found : Program) (procs : ℕ) (entries : List Entry) (status : Status) (has : HasFitting given.files program procs found) → HasSchedule given.files schedule procs entries
-    → OrMemory (RefusesForm has.has_program.text) status → OrMemory (RefusesRun given program schedule) status
-run_form given program schedule found procs entries status has has_schedule is =
-    weaker (RefusesForm has.has_program.text) (RefusesRun given program schedule) status
-    (λ refused. inr (inr (inr record { procs = procs; entries = entries; has_schedule = has_schedule; found = found; has_fitting = has; refused = refused }))) is
+    (inr (inr record { procs = procs; entries = entries; has_schedule = has_schedule; refused = record { found = found; has_program = has; refused = is } }))
 
 pub check_program : (given : Given) (program : List ℕ) (procs : ℕ) (status : Status) → OrMemory (RefusesProgram given program) status → OrMemory (RefusesCheck given program procs) status
 check_program given program procs status is = weaker (RefusesProgram given program) (RefusesCheck given program procs) status inl is

@@ -1,10 +1,10 @@
 -- What the tokens of a text tell of it.
 use Rattle.std.specs.Prelude.{◌≡◌, ◌≢◌, ◌⊎◌, ℕ, List, Result, Ok, Err, IfOk, IfErr}
-use Rattle.std.proofs.Common.{inl, inr, subst, sym, ap, refl}
+use Rattle.std.proofs.Common.{inl, inr, subst, sym, refl}
 use Rattle.dsm_base.specs.declared.act.SchedErr.{SchedErr}
 use Rattle.dsm_syntax.specs.declared.token.Token.{Token}
 use Rattle.dsm_syntax.specs.declared.errors.ProgErr.{ProgErr}
-use Rattle.dsm_syntax.specs.Texts.{IsLexed, IsAnswer, IsRefused as IsTextRefused}
+use Rattle.dsm_syntax.specs.Texts.{IsLexed, IsRefused as IsTextRefused}
 use Rattle.dsm_syntax.specs.Tree.{Item}
 use Rattle.dsm_syntax.specs.Lexemes.{lexemes}
 use Rattle.dsm_parse.specs.Programs.{IsProgramOf}
@@ -12,9 +12,6 @@ use Rattle.dsm_parse.specs.Refusals.{IsRefused as AreTokensRefused}
 use Rattle.dsm_check.specs.declared.checked.Checked.{Checked}
 use Rattle.dsm_check.specs.CheckedViews.{program_of}
 use Rattle.dsm_check.specs.Programs.{checked}
-use Rattle.dsm_small.specs.declared.tree.SmallProgram.{SmallProgram}
-use Rattle.dsm_small.specs.Spelling.{IsSpelled}
-use Rattle.dsm_small.specs.Reader.{IsAnswerTo}
 use Rattle.dsm_top.specs.declared.status.Status.{Status}
 use Rattle.dsm_sched.specs.Entries.{Gives}
 use Rattle.dsm_sched.specs.declared.picks.PickEntry.{PickEntry}
@@ -23,28 +20,8 @@ use Rattle.dsm_sched.specs.PickTexts.{picks_said}
 use Rattle.dsm_sched.specs.Built.{built_said}
 use Rattle.dsm_top.specs.Accepted.{IsProgramText, IsScheduleText}
 use Rattle.dsm_top.specs.Statuses.{status_of_program, status_of_schedule}
-use Rattle.dsm_top.specs.Refusals.{RefusesSchedule, RefusesProgram, RefusesPicks, RefusesForm, OrMemory, IsNoProgram, IsReadProgram, IsUnchecked, by_tokens, by_tree, by_rules}
+use Rattle.dsm_top.specs.Refusals.{RefusesSchedule, RefusesProgram, RefusesPicks, IsUnchecked, by_tokens, by_tree, by_rules}
 use Rattle.dsm_top.specs.Prepared.{Span, GivesProgram, RefusesIn}
-
-same_tokens : (result : Result (List Token) ProgErr) (tokens other : List Token) → result ≡ Ok tokens → IsAnswer result (Ok other) → tokens ≡ other
-same_tokens result tokens other is (inl answer) = cc (is, answer)
-same_tokens result tokens other is (inr answer) = cc (is, answer)
-
--- where a text has these tokens alone, and no program has them, it is no program
-no_program : (text : List ℕ) (result : Result (List Token) ProgErr) (tokens : List Token) → result ≡ Ok tokens →
-    ((other : List Token) → IsLexed text other → IsAnswer result (Ok other)) → ((program : SmallProgram) → IsSpelled tokens program → ⊥) → IsNoProgram text
-no_program text result tokens is only none program found =
-    none program (subst (λ these. IsSpelled these program) (sym (same_tokens result tokens found.tokens is (only found.tokens found.lexed))) found.spelled)
-
--- an answer for the tokens is one for the text
-pub read_text : (text : List ℕ) (result : Result (List Token) ProgErr) (tokens : List Token) (answer : Result SmallProgram ProgErr) → result ≡ Ok tokens → IsLexed text tokens →
-    ((other : List Token) → IsLexed text other → IsAnswer result (Ok other)) → IsAnswerTo tokens answer → IsReadProgram text answer
-read_text text result tokens (Ok program) is lexed only answers = record { tokens = tokens; lexed = lexed; spelled = answers }
-read_text text result tokens (Err (ProgErr.NotBuilt line)) is lexed only answers = (answers.0, no_program text result tokens is only answers.1)
-read_text text result tokens (Err ProgErr.Memory) is lexed only answers = tt
-read_text text result tokens (Err _) is lexed only answers = absurd answers
-
--- Programs of the whole language.
 
 pub gives_refusal : (text : List ℕ) (error : ProgErr) → (error ≢ ProgErr.Memory → IsUnchecked text error) → GivesProgram text (Err error)
 gives_refusal text ProgErr.Memory is = tt
@@ -78,12 +55,6 @@ program_status error other = refl
 pub schedule_status : (error : SchedErr) → (error ≡ SchedErr.Memory → ⊥) → Status.ScheduleRefused error ≡ status_of_schedule error
 schedule_status SchedErr.Memory other = absurd (other refl)
 schedule_status error other = refl
-
--- a text that isn't of the small form
-pub refuses_form : (slice text : List ℕ) → slice ≡ text → (error : ProgErr) → IsReadProgram slice (Err error) → OrMemory (RefusesForm text) (status_of_program error)
-refuses_form slice text same ProgErr.Memory gives = tt
-refuses_form slice text same (ProgErr.NotBuilt line) gives = (ap ProgErr.NotBuilt gives.0, subst IsNoProgram same gives.1)
-refuses_form slice text same _ gives = absurd gives
 
 -- a text that was read in a part of a call, and for which its reader answers an error
 module _ (span : Span) (name slice text : List ℕ) (same : slice ≡ text) where

@@ -12,8 +12,6 @@ use Rattle.dsm_sched.specs.declared.picks.PickEntry.{PickEntry}
 use Rattle.dsm_sched.specs.declared.schedule.Entry.{Entry}
 use Rattle.dsm_sched.specs.PickTexts.{picks_said}
 use Rattle.dsm_sched.specs.Built.{built_said}
-use Rattle.dsm_small.specs.declared.tree.SmallProgram.{SmallProgram}
-use Rattle.dsm_small.specs.Spelling.{IsSpelled}
 
 -- what files hold, where they tell
 abbrev pub Contents : Type 0
@@ -62,26 +60,14 @@ pub record HasPicks (files : Contents) (name : List ℕ) (procs : ℕ) (entries 
 
 -- What `run` takes.
 
--- the tokens of a text are those of a small program
-pub record IsProgram (text : List ℕ) (program : SmallProgram) : Type 0 where
-  pub tokens : List Token
-  pub lexed : IsLexed text tokens
-  pub spelled : IsSpelled tokens program
-
--- the file has a program that the rules accept and that fits so many processors; it is this small one
-pub record HasProgram (files : Contents) (name : List ℕ) (procs : ℕ) (small : SmallProgram) : Type 0 where
-  pub found : Program
-  pub has_fitting : HasFitting files name procs found
-  pub is_small : IsProgram has_fitting.has_program.text small
-
 -- the file has a schedule for so many processors: these entries, all of which can be run
 pub record HasSchedule (files : Contents) (name : List ℕ) (procs : ℕ) (entries : List Entry) : Type 0 where
   pub text : List ℕ
   pub is_read : IsScheduleText files name text
   pub is_schedule : built_said text ≡ Ok (procs, entries)
 
--- the first file has a program, and the second a schedule
+-- the first file has a program, and the second a schedule for so many processors, which the program fits
 pub record IsAccepted (files : Contents) (program_name schedule_name : List ℕ)
-    (small : SmallProgram) (procs : ℕ) (entries : List Entry) : Type 0 where
-  pub has_program : HasProgram files program_name procs small
+    (program : Program) (procs : ℕ) (entries : List Entry) : Type 0 where
+  pub has_program : HasFitting files program_name procs program
   pub has_schedule : HasSchedule files schedule_name procs entries

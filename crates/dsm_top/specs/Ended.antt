@@ -1,5 +1,5 @@
 -- How a call ended, and what it left.
-use Rattle.std.specs.Prelude.{◌≡◌, ◌⊎◌, ℕ, ◌≤◌, List, [], ◌∷◌, ◌++◌, length, take, reverse, Option, Some, codes, IsTrue}
+use Rattle.std.specs.Prelude.{◌≡◌, ◌⊎◌, ℕ, ◌≤◌, List, [], ◌∷◌, ◌++◌, length, take, reverse, Option, Some, codes}
 use Rattle.dsm_base.specs.Causes.{Rose}
 use Rattle.dsm_base.specs.Output.{printed_lines}
 use Rattle.dsm_base.specs.Sink.{appended, TakesPart}
@@ -7,6 +7,7 @@ use Rattle.dsm_base.specs.declared.act.Act.{Act}
 use Rattle.dsm_base.specs.declared.names.Proc.{Proc}
 use Rattle.dsm_base.specs.Plain.{Turn}
 use Rattle.dsm_check.specs.Programs.{Program}
+use Rattle.dsm_check.specs.Setups.{IsSetupOf}
 use Rattle.dsm_sched.specs.declared.picks.PickEntry.{PickEntry}
 use Rattle.dsm_sched.specs.declared.schedule.Entry.{Entry}
 use Rattle.dsm_sched.specs.Picks.{picked_by}
@@ -14,12 +15,10 @@ use Rattle.dsm_sched.specs.Schedules.{units_by}
 use Rattle.dsm_net.specs.declared.trace.Group.{Group}
 use Rattle.dsm_net.specs.Fits.{FitsUnits, run_of}
 use Rattle.dsm_net.specs.Story.{history}
-use Rattle.dsm_small.specs.declared.tree.SmallProgram.{SmallProgram}
-use Rattle.dsm_small.specs.Meaning.{small_first, small_semantics}
-use Rattle.dsm_small.specs.Setups.{small_setup}
+use Rattle.dsm_semantics.specs.Programs.{first_states, threads_of}
 use Rattle.dsm_base.specs.declared.finished.Finished.{Finished}
 use Rattle.dsm_base.specs.Endings.{endings_of, finished_by}
-use Rattle.dsm_base.specs.Setups.{is_proc_count}
+use Rattle.dsm_base.specs.declared.setup.Setup.{Setup}
 use Rattle.dsm_top.specs.declared.status.Status.{Status}
 use Rattle.dsm_top.specs.declared.status.Report.{Report}
 use Rattle.dsm_top.specs.declared.shown.Asked.{Asked}
@@ -121,40 +120,39 @@ WentShowing units threads lines shown left status =
 
 -- `run`.
 
--- the trace of so many units of a schedule, which the program's threads, one a processor, have made
-pub record IsRun (program : SmallProgram) (procs : ℕ) (count : IsTrue (is_proc_count procs))
-    (schedule : List Act) (units : ℕ) (trace : List Group) : Type 0 where
+-- the trace of so many units of a schedule, which the program's threads have made on processors that are
+-- set up so
+pub record IsRun (program : Program) (setup : Setup) (schedule : List Act) (units : ℕ)
+    (trace : List Group) : Type 0 where
   pub within : units ≤ length schedule
-  pub fits : FitsUnits (small_setup program procs count) (small_first program procs) small_semantics
+  pub fits : FitsUnits setup (first_states program setup.procs) (threads_of program)
       (reverse (take units schedule)) trace
-  pub lawful : AreLawful (small_setup program procs count) (small_first program procs) small_semantics
-      fits.done
+  pub lawful : AreLawful setup (first_states program setup.procs) (threads_of program) fits.done
 
 -- what is asked for behind the lines of a run: the texts of its trace and of the state after it
-abbrev pub shown_after : {program : SmallProgram} {procs : ℕ} {count : IsTrue (is_proc_count procs)}
-    {schedule : List Act} {units : ℕ} {trace : List Group} →
-    Asked → IsRun program procs count schedule units trace → List ℕ
-shown_after {program} {procs} {count} {schedule} {units} {trace} asked is_run =
-    shown_by asked (small_setup program procs count)
-    (run_of (small_setup program procs count) (small_first program procs) small_semantics
-    is_run.fits.done).net trace
+abbrev pub shown_after : {program : Program} {setup : Setup} {schedule : List Act} {units : ℕ}
+    {trace : List Group} → Asked → IsRun program setup schedule units trace → List ℕ
+shown_after {program} {setup} {schedule} {units} {trace} asked is_run =
+    shown_by asked setup
+    (run_of setup (first_states program setup.procs) (threads_of program) is_run.fits.done).net trace
 
 -- what a run of a program by a schedule for so many processors leaves, with what was asked for
-pub record Ran (program : SmallProgram) (procs : ℕ) (schedule : List Act) (asked : Asked) (left : Left)
+pub record Ran (program : Program) (procs : ℕ) (schedule : List Act) (asked : Asked) (left : Left)
     (status : Status) : Type 0 where
-  pub count : IsTrue (is_proc_count procs)
-  pub is_run : IsRun program procs count schedule left.units left.trace
+  pub setup : Setup
+  pub is_setup : IsSetupOf program procs setup
+  pub is_run : IsRun program setup schedule left.units left.trace
   pub went : WentShowing (length schedule) (finished_by procs (endings_of (history left.trace)))
       (printed_lines (history left.trace)) (shown_after asked is_run) left status
 
 -- `run`, with a program and a schedule that are accepted
 pub record EndedRun (given : Given) (program schedule : List ℕ) (asked : Asked) (left : Left)
     (status : Status) : Type 0 where
-  pub small : SmallProgram
+  pub found : Program
   pub procs : ℕ
   pub entries : List Entry
-  pub accepted : IsAccepted given.files program schedule small procs entries
-  pub ran : Ran small procs (units_by procs entries) asked left status
+  pub accepted : IsAccepted given.files program schedule found procs entries
+  pub ran : Ran found procs (units_by procs entries) asked left status
 
 -- `check`.
 

@@ -64,7 +64,7 @@ IsReady (Prepared.Plain prepared) = CanPick prepared
 abbrev pub IsPrepared : Contents → Option Command → Prepared → Type 0
 IsPrepared files (Some (run program schedule trace state)) (Prepared.Run prepared) =
     (prepared.asked ≡ record { trace = trace; state = state })
-    × IsAccepted files program schedule prepared.program prepared.schedule.procs
+    × IsAccepted files program schedule (program_of prepared.program) prepared.schedule.procs
     prepared.schedule.entries
 IsPrepared files (Some (check program procs)) Prepared.Check =
     (found : Program) × HasFitting files program procs found

@@ -15,10 +15,9 @@ use Rattle.dsm_sched.specs.declared.picks.PickEntry.{PickEntry}
 use Rattle.dsm_sched.specs.declared.schedule.Entry.{Entry}
 use Rattle.dsm_sched.specs.PickTexts.{picks_said}
 use Rattle.dsm_sched.specs.Built.{built_said}
-use Rattle.dsm_small.specs.declared.tree.SmallProgram.{SmallProgram}
 use Rattle.dsm_top.specs.declared.status.Status.{Status}
 use Rattle.dsm_command.specs.Commands.{Command, run, check, plain, load}
-use Rattle.dsm_top.specs.Accepted.{Contents, IsProgram, IsProgramText, IsScheduleText, HasChecked, HasFitting, HasPicks, HasSchedule}
+use Rattle.dsm_top.specs.Accepted.{Contents, IsProgramText, IsScheduleText, HasChecked, HasFitting, HasPicks, HasSchedule}
 
 -- what a call was given: the command that its words are, what the files hold, and how often they had
 -- failed before it and have after it
@@ -119,17 +118,6 @@ RefusesPlain given program picks status =
 
 -- What `run` refuses.
 
--- the text is no small program
-abbrev pub IsNoProgram : List ℕ → Type 0
-IsNoProgram text = (program : SmallProgram) → IsProgram text program → ⊥
-
--- what a reader of small programs answers; out of memory owes nothing
-abbrev pub IsReadProgram : List ℕ → Result SmallProgram ProgErr → Type 0
-IsReadProgram text (Ok program) = IsProgram text program
-IsReadProgram text (Err (ProgErr.NotBuilt line)) = (line ≡ 0) × IsNoProgram text
-IsReadProgram text (Err ProgErr.Memory) = Unit {0}
-IsReadProgram text (Err _) = ⊥
-
 -- the schedule was read, and is refused
 pub record HasNoSchedule (files : Contents) (name : List ℕ) (error : SchedErr) : Type 0 where
   pub text : List ℕ
@@ -155,26 +143,12 @@ pub record RefusesOwnersOfRun (given : Given) (program schedule : List ℕ) (sta
   pub has_schedule : HasSchedule given.files schedule procs entries
   pub refused : RefusesOwners given program procs status
 
--- the program isn't of the small form
-abbrev pub RefusesForm : List ℕ → Status → Type 0
-RefusesForm text (Status.ProgramRefused error) = (error ≡ ProgErr.NotBuilt 0) × IsNoProgram text
-RefusesForm text _ = ⊥
-
--- all is accepted, but the program isn't of the form that can be run yet
-pub record IsNotBuilt (given : Given) (program schedule : List ℕ) (status : Status) : Type 0 where
-  pub procs : ℕ
-  pub entries : List Entry
-  pub has_schedule : HasSchedule given.files schedule procs entries
-  pub found : Program
-  pub has_fitting : HasFitting given.files program procs found
-  pub refused : RefusesForm has_fitting.has_program.text status
-
--- first the program, then the schedule, then the owners, and last the form
+-- first the program, then the schedule, and last the owners
 abbrev pub RefusesRun : Given → List ℕ → List ℕ → Status → Type 0
 RefusesRun given program schedule status =
     RefusesProgram given program status ⊎
     (RefusesScheduleBehind given program schedule status ⊎
-    (RefusesOwnersOfRun given program schedule status ⊎ IsNotBuilt given program schedule status))
+    RefusesOwnersOfRun given program schedule status)
 
 -- Any call.
 

@@ -3,26 +3,25 @@
 ghost use Rattle.std.specs.Prelude.{◌≡◌, Some, Ok, string_bytes, IfOk, IfErr, MatchResult};
 ghost use Rattle.dsm_check.specs.CheckedViews.{program_of};
 ghost use Rattle.dsm_check.specs.Setups.{fitting};
-ghost use Rattle.dsm_top.specs.Accepted.{IsText, IsProgramText, IsChecked, HasSchedule, IsAccepted, HasFitting, HasPicks};
+ghost use Rattle.dsm_top.specs.Accepted.{IsText, HasChecked, HasSchedule, IsAccepted, HasFitting, HasPicks};
 ghost use Rattle.dsm_command.specs.InCode.{command_in};
 ghost use Rattle.dsm_top.specs.Refusals.{given_by, RefusesSchedule, RefusesRun, RefusesProgram, RefusesPicks, RefusesOwner, RefusesCheck, RefusesPlain, RefusesOrMemory};
 ghost use Rattle.dsm_top.specs.Prepared.{span_of, IsUnread, RefusesIn, Keeps, CanPick, IsReady, IsPrepared};
 
-use crate::program::{read_checked, read_program};
+use crate::program::read_checked;
 use crate::shown::Asked;
 use crate::status::Status;
 use dsm_base::{Files, ReadErr};
 use dsm_check::{Checked, fit};
 use dsm_command::Command;
 use dsm_sched::{MOST_BYTES, Picks, Schedule, read_picks, read_schedule};
-use dsm_small::SmallProgram;
 use dsm_syntax::MOST_TEXT;
 use std::alloc::Global;
 
-/// A small program and a schedule that are accepted.
+/// A program and a schedule that are accepted.
 #[derive(Drop)]
-pub(crate) struct SmallRun {
-    pub program: SmallProgram,
+pub(crate) struct ScheduledRun {
+    pub program: Checked,
     pub schedule: Schedule,
     pub asked: Asked,
 }
@@ -37,7 +36,7 @@ pub(crate) struct PickRun {
 /// What a command needs, where all that it names is accepted.
 #[derive(Drop)]
 pub(crate) enum Prepared {
-    Run(SmallRun),
+    Run(ScheduledRun),
     Check,
     Plain(PickRun),
 }
@@ -80,19 +79,10 @@ fn schedule_of<F: Files>(alloc: Global, name: &String, files: &mut F) -> Result<
     Ok(read_schedule(alloc, text.as_slice())?)
 }
 
-/// A text, and the program that it is.
-#[derive(Drop)]
-struct CheckedText {
-    text: Vec<u8>,
-    program: Checked,
-}
-
 /// Reads a program of the whole language.
-fn checked_of<F: Files>(alloc: Global, name: &String, files: &mut F) -> Result<CheckedText, Status>
-    ensures text { IfOk result (λ found.
-        IsProgramText (F.files_hold files.old) (string_bytes name.now) found.text.items) }
-    ensures program { IfOk result (λ found.
-        IsChecked found.text.items (program_of found.program)) }
+fn checked_of<F: Files>(alloc: Global, name: &String, files: &mut F) -> Result<Checked, Status>
+    ensures program { IfOk result (λ found. HasChecked (F.files_hold files.old)
+        (string_bytes name.now) (program_of found)) }
     ensures refused { IfErr result
         (RefusesIn (span_of F.files_hold F.files_faults files.old files.new)
         (λ given. RefusesProgram given (string_bytes name.now))) }
@@ -100,8 +90,7 @@ fn checked_of<F: Files>(alloc: Global, name: &String, files: &mut F) -> Result<C
         (F.files_hold files.new) }
 {
     let text = read_text(alloc, files, name, MOST_TEXT, 0)?;
-    let program = read_checked(alloc, text.as_slice())?;
-    Ok(CheckedText { text, program })
+    Ok(read_checked(alloc, text.as_slice())?)
 }
 
 /// Reads a list of picks.
@@ -126,29 +115,27 @@ fn test_owners(program: &Checked, procs: u8) -> Result<(), Status>
     fit(program, procs).map_err(Status::ProgramRefused)
 }
 
-/// Reads the program and the schedule of `run`, tests the owners, and then whether the program is of
-/// the small form.
+/// Reads the program and the schedule of `run`, and tests the owners.
 fn prepare_run<F: Files>(
     alloc: Global,
     program: &String,
     schedule: &String,
     asked: Asked,
     files: &mut F,
-) -> Result<SmallRun, Status>
+) -> Result<ScheduledRun, Status>
     ensures asked { IfOk result (λ prepared. prepared.asked ≡ asked) }
     ensures accepted { IfOk result (λ prepared. IsAccepted (F.files_hold files.old)
         (string_bytes program.now) (string_bytes schedule.now)
-        prepared.program prepared.schedule.procs prepared.schedule.entries) }
+        (program_of prepared.program) prepared.schedule.procs prepared.schedule.entries) }
     ensures refused { IfErr result
         (RefusesIn (span_of F.files_hold F.files_faults files.old files.new)
         (λ given. RefusesRun given (string_bytes program.now) (string_bytes schedule.now))) }
 {
     let found = checked_of(alloc, program, files)?;
     let schedule = schedule_of(alloc, schedule, files)?;
-    test_owners(&found.program, schedule.procs)?;
-    let program = read_program(alloc, found.text.as_slice())?;
-    Ok(SmallRun {
-        program,
+    test_owners(&found, schedule.procs)?;
+    Ok(ScheduledRun {
+        program: found,
         schedule,
         asked,
     })
@@ -168,8 +155,8 @@ fn prepare_check<F: Files>(
         (λ given. RefusesCheck given (string_bytes program.now) procs)) }
 {
     let found = checked_of(alloc, program, files)?;
-    test_owners(&found.program, procs)?;
-    Ok(found.program)
+    test_owners(&found, procs)?;
+    Ok(found)
 }
 
 /// Reads the program and the picks of `plain`, and tests the owners.
@@ -189,9 +176,9 @@ fn prepare_plain<F: Files>(
 {
     let found = checked_of(alloc, program, files)?;
     let picks = picks_of(alloc, picks, files)?;
-    test_owners(&found.program, picks.procs)?;
+    test_owners(&found, picks.procs)?;
     Ok(PickRun {
-        program: found.program,
+        program: found,
         picks,
     })
 }

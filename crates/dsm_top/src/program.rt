@@ -1,25 +1,11 @@
 //! The programs that texts are.
 
-ghost use Rattle.dsm_top.specs.Refusals.{IsReadProgram};
 ghost use Rattle.dsm_top.specs.Prepared.{GivesProgram};
 
 use dsm_check::{Checked, check};
 use dsm_parse::parse;
-use dsm_small::{SmallProgram, read_small};
 use dsm_syntax::{ProgErr, lex};
 use std::alloc::Global;
-
-/// Reads a small program. `NotBuilt` exactly where the text isn't one; `Memory` for want of memory.
-pub(crate) fn read_program(alloc: Global, text: &[u8]) -> Result<SmallProgram, ProgErr>
-    ensures { IsReadProgram text.now result }
-{
-    let tokens = match lex(alloc, text) {
-        Ok(tokens) => tokens,
-        Err(ProgErr::Memory) => return Err(ProgErr::Memory),
-        Err(_) => return Err(ProgErr::NotBuilt { line: 0 }),
-    };
-    read_small(alloc, &tokens)
-}
 
 /// Reads a program of the whole language. Refused where it has no tokens, where they spell no tree, or
 /// where a rule refuses the tree; `Memory` for want of memory.

@@ -12,38 +12,42 @@ ghost use Rattle.dsm_base.specs.declared.setup.Setup.{Setup};
 ghost use Rattle.dsm_net.specs.declared.trace.Group.{Group};
 ghost use Rattle.dsm_net.specs.Fits.{FitsUnits, run_of};
 ghost use Rattle.dsm_laws_protocol.specs.Holding.{AreWithin};
-ghost use Rattle.dsm_small.specs.declared.tree.SmallProgram.{SmallProgram};
-ghost use Rattle.dsm_small.specs.Meaning.{small_first, small_semantics};
+ghost use Rattle.dsm_check.specs.CheckedViews.{program_of};
+ghost use Rattle.dsm_check.specs.Programs.{Program};
+ghost use Rattle.dsm_check.specs.Setups.{IsSetupOf};
+ghost use Rattle.dsm_code.specs.Machine.{first_state};
+ghost use Rattle.dsm_code.specs.Valid.{is_valid};
+ghost use Rattle.dsm_laws_code.specs.Programs.{code_of};
+ghost use Rattle.dsm_semantics.specs.Programs.{first_states, threads_of};
 ghost use Rattle.dsm_top.specs.Lawful.{IsLawful};
-ghost use Rattle.dsm_small.specs.Setups.{small_setup};
-ghost use Rattle.dsm_top.specs.Ended.{left_by, Ran};
-ghost use Rattle.dsm_top.specs.Runs.{IsWholeWorld, small_kind, first_by, first_in, IsMadeBy, HasAll, FitsFirst, IsSameRun, WroteCut, WroteCutShowing, shown_of};
+ghost use Rattle.dsm_top.specs.Ended.{left_by};
+ghost use Rattle.dsm_top.specs.Runs.{IsWholeWorld, code_kind, first_by, first_in, IsMadeBy, HasAll, FitsFirst, IsSameRun, WroteCut, WroteCutShowing, shown_of, IsScheduled};
 
 use crate::lines::put_lines;
-use crate::prepare::SmallRun;
+use crate::prepare::ScheduledRun;
 use crate::shown::{Asked, put_shown};
 use crate::status::{Report, Status};
 use dsm_base::{MemFault, ReadErr, Sink};
-use dsm_laws_history::{
-    barrier_lines, desks, desks_in_order, made_threads, newer_lines, one_memory,
-    openings_are_in_place, opens_when_all_came, output, takes_are_granted,
-};
-use dsm_laws_protocol::{nobody_waits_in_vain, own_parts, processors_hold_together};
+use dsm_check::Checked;
+use dsm_compile::compile;
+use dsm_laws_history::output;
+use dsm_laws_protocol::own_parts;
+use dsm_laws_same::compiled_has_runs_of_tree;
 use dsm_network::World;
 use dsm_sched::Schedule;
-use dsm_small::{SharedProgram, SmallMaker, SmallProgram, SmallThread};
+use dsm_thread::{CodeMaker, Thread};
 use std::alloc::Global;
 use std::rc::Rc;
 
 /// Applies the units of a schedule to a world that has had none, each with its lines put before the
 /// next. After an error a part of the lines is put, or out of memory a front of them.
 pub(crate) fn apply_units<K: Sink>(
-    world: &mut World<SmallMaker>,
+    world: &mut World<CodeMaker>,
     schedule: &Schedule,
     out: &mut K,
 ) -> Result<(), ReadErr>
     requires whole { IsWholeWorld world.old }
-    requires none { IsRunOf small_kind first_by [] world.old }
+    requires none { IsRunOf code_kind first_by [] world.old }
     requires no_trace { groups_of world.old ≡ [] }
     requires procs { (setup_of world.old).procs ≡ schedule.now.procs }
     ensures same { IsSameRun world.old world.new }
@@ -69,13 +73,13 @@ pub(crate) fn apply_units<K: Sink>(
 /// their lines. After an error a part of all that is put, or out of memory a front of the lines.
 fn go_through<K: Sink>(
     alloc: Global,
-    world: &mut World<SmallMaker>,
+    world: &mut World<CodeMaker>,
     schedule: &Schedule,
     asked: Asked,
     out: &mut K,
 ) -> Result<(), ReadErr>
     requires whole { IsWholeWorld world.old }
-    requires none { IsRunOf small_kind first_by [] world.old }
+    requires none { IsRunOf code_kind first_by [] world.old }
     requires no_trace { groups_of world.old ≡ [] }
     requires procs { (setup_of world.old).procs ≡ schedule.now.procs }
     ensures same { IsSameRun world.old world.new }
@@ -96,51 +100,41 @@ fn go_through<K: Sink>(
 }
 
 /// The world of a program before its first unit.
-fn start(alloc: Global, program: SmallProgram, procs: u8) -> Result<World<SmallMaker>, MemFault>
+fn start(alloc: Global, program: &Checked, procs: u8) -> Result<World<CodeMaker>, MemFault>
     requires { IsTrue (is_proc_count procs) }
     ensures whole { IfOk result IsWholeWorld }
-    ensures none { IfOk result (IsRunOf small_kind first_by []) }
+    ensures none { IfOk result (IsRunOf code_kind first_by []) }
     ensures no_trace { IfOk result (λ world. groups_of world ≡ []) }
-    ensures setup { IfOk result (λ world. (count : IsTrue (is_proc_count procs)) →
-        setup_of world ≡ small_setup program procs count) }
-    ensures first { IfOk result (λ world. first_in world ≡ small_first program procs) }
+    ensures setup { IfOk result (λ world.
+        IsSetupOf (program_of program.now) procs (setup_of world)) }
+    ensures first { IfOk result (λ world. first_in world ≡
+        first_state (code_of (program_of program.now)) (setup_of world).procs) }
+    ensures valid { IfOk result (λ _. IsTrue (is_valid (code_of (program_of program.now)))) }
 {
     let setup = Rc::new(alloc, program.setup(alloc, procs)?)?;
-    let program = SharedProgram::new(alloc, program)?;
-    World::new(alloc, setup, SmallMaker { program })
+    let maker = CodeMaker::new(alloc, compile(alloc, program)?)?;
+    World::new(alloc, setup, maker)
 }
 
-/// All laws of traces that fit their units, for threads of small programs.
+/// All laws of traces that fit their units, for the threads of a program.
 fn laws()
-    ensures { (program : SmallProgram) (setup : Setup) (acts : List Act) (trace : List Group)
-        (fits : FitsUnits setup (small_first program setup.procs) small_semantics acts trace) →
+    ensures { (program : Program) (setup : Setup) (acts : List Act) (trace : List Group)
+        (fits : FitsUnits setup (first_states program setup.procs) (threads_of program) acts trace) →
         AreWithin setup acts →
-        IsLawful setup (small_first program setup.procs) small_semantics
-        (run_of setup (small_first program setup.procs) small_semantics fits.done).net trace }
-{
-    made_threads::<SmallMaker>();
-    one_memory::<SmallThread>();
-    own_parts::<SmallThread>();
-    newer_lines::<SmallThread>();
-    takes_are_granted::<SmallThread>();
-    barrier_lines::<SmallThread>();
-    opens_when_all_came::<SmallThread>();
-    openings_are_in_place::<SmallThread>();
-    desks::<SmallThread>();
-    desks_in_order::<SmallThread>();
-    processors_hold_together::<SmallThread>();
-    nobody_waits_in_vain::<SmallThread>();
-}
+        IsLawful setup (first_states program setup.procs) (threads_of program)
+        (run_of setup (first_states program setup.procs) (threads_of program) fits.done).net trace }
+{}
 
 /// Runs a program by a schedule, and puts what is asked for behind the lines.
-pub(crate) fn run<K: Sink>(alloc: Global, prepared: SmallRun, out: &mut K) -> Report
-    ensures { Ran prepared.program prepared.schedule.procs (acts_of prepared.schedule)
-        prepared.asked (left_by K.sink_holds K.sink_faults out.old out.new result) result.status }
+pub(crate) fn run<K: Sink>(alloc: Global, prepared: ScheduledRun, out: &mut K) -> Report
+    ensures { IsScheduled prepared
+        (left_by K.sink_holds K.sink_faults out.old out.new result) result.status }
 {
     laws();
-    output::<SmallThread>();
-    own_parts::<SmallThread>();
-    let Ok(mut world) = start(alloc, prepared.program, prepared.schedule.procs) else {
+    compiled_has_runs_of_tree();
+    output::<Thread>();
+    own_parts::<Thread>();
+    let Ok(mut world) = start(alloc, &prepared.program, prepared.schedule.procs) else {
         return Report::untraced(alloc, Status::Memory, 0);
     };
     let status = match go_through(alloc, &mut world, &prepared.schedule, prepared.asked, out) {

@@ -148,9 +148,9 @@ fn refusals_come_in_their_order(rt: HostRuntime) -> Result<(), Fail> {
             words: "run prog other",
             program: COUNTER,
             other: "procs 2\n",
-            status: 3,
+            status: 2,
             units: 0,
-            written: "dsm: program refused: not built, line 0\n",
+            written: "",
         },
         Called {
             words: "run prog none",
@@ -188,9 +188,9 @@ fn refusals_come_in_their_order(rt: HostRuntime) -> Result<(), Fail> {
             words: "run prog other",
             program: OWNED,
             other: "procs 4\n",
-            status: 3,
+            status: 2,
             units: 0,
-            written: "dsm: program refused: not built, line 0\n",
+            written: "",
         },
         Called {
             words: "plain prog none",

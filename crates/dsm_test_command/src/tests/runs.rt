@@ -1,7 +1,7 @@
 //! Runs by schedules.
 
 use crate::tests::called::{Called, are_right, call, files};
-use crate::tests::programs::{ADDER, FIRST, NOTHING, SECOND, STORED};
+use crate::tests::programs::{ADDER, COUNTER, FIRST, NOTHING, RING, SECOND, STORED, SUM, UNBOUND};
 use dsm_base::MemSink;
 use std::alloc::{AllocError, Global};
 use std::test::Fail;
@@ -88,6 +88,45 @@ fn runs_print_their_lines(rt: HostRuntime) -> Result<(), Fail> {
             status: 2,
             units: 4,
             written: "",
+        },
+    ];
+    are_right(&rt, rt.alloc(), TABLE)
+}
+
+#[test]
+fn programs_of_the_whole_language_run(rt: HostRuntime) -> Result<(), Fail> {
+    const TABLE: &[Called] = &[
+        Called {
+            words: "run prog other --state",
+            program: COUNTER,
+            other: "procs 2\nfinish 40\n",
+            status: 0,
+            units: 160,
+            written: "P0: x=1\nP1: x=2\nP0: x=3\nP1: x=4\n--\nP0 turn 17 end\nP1 turn 17 end\nlock 0 version 4 cells 0=4\n",
+        },
+        Called {
+            words: "run prog other",
+            program: SUM,
+            other: "procs 2\nfinish 2\n",
+            status: 1,
+            units: 8,
+            written: "P0: 9223372036854775807\nP1: fault overflow line 3\n",
+        },
+        Called {
+            words: "run prog other",
+            program: UNBOUND,
+            other: "procs 2\nfinish 10\n",
+            status: 1,
+            units: 40,
+            written: "P0: fault unbound line 5\nP1: fault unbound line 7\n",
+        },
+        Called {
+            words: "run prog other",
+            program: RING,
+            other: "procs 3\nfinish 10\n",
+            status: 0,
+            units: 90,
+            written: "P0: 30\nP1: 10\nP2: 20\n",
         },
     ];
     are_right(&rt, rt.alloc(), TABLE)
@@ -258,10 +297,10 @@ fn status_of(alloc: Global, program: &str, schedule: &str) -> Result<u8, Fail> {
 const HEAD: &str = "shared int x;\nlock_t L;\nbind(L, x, 0, 1);\nint main(int me, int n) {\n";
 
 #[test]
-fn programs_of_another_form_are_refused(rt: HostRuntime) -> Result<(), Fail> {
+fn programs_at_the_limits_are_run_or_refused(rt: HostRuntime) -> Result<(), Fail> {
     const TABLE: &[(&str, usize, u8)] = &[
         ("x = 1;", 1, 1),
-        ("while (1) x = 1;", 1, 3),
+        ("while (1) x = 1;", 1, 1),
         ("acquire(x);", 1, 3),
         ("x = 9223372036854775808;", 1, 3),
         ("print(1, 2, 3, 4, 5, 6, 7, 8, 9);", 1, 3),

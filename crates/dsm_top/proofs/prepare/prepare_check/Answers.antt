@@ -13,13 +13,13 @@ returns-in_err-found-clause-refused g c =
 pub returns-in_err-test_owners-clause-refused : goal.returns-in_err-test_owners-clause-refused
 returns-in_err-test_owners-clause-refused g c =
     let p = err_from_is_err_and c.from_residual-in_err-test_owners.result c.from_residual-in_err-test_owners.ensures.1 in
-    let program = program_of c.in_ok-found.found.program in
+    let program = program_of c.in_ok-found.found in
     rw (p.1, p.2) (λ given part. check_owner given (string_bytes c.args.program.now) c.args.procs program c.in_err-test_owners.field-0.0
     (subst (λ files. HasChecked files (string_bytes c.args.program.now) program) (sym part.same)
-    record { text = c.in_ok-found.found.text.items; is_read = c.in_ok-found.ensures.text; is_program = c.in_ok-found.ensures.program }) c.in_err-test_owners.ensures)
+    c.in_ok-found.ensures.program) c.in_err-test_owners.ensures)
 
 pub returns-clause-accepted : goal.returns-clause-accepted
 returns-clause-accepted g c = record {
-  has_program = record { text = c.in_ok-found.found.text.items; is_read = c.in_ok-found.ensures.text; is_program = c.in_ok-found.ensures.program };
+  has_program = c.in_ok-found.ensures.program;
   fits = c.in_ok-test_owners.ensures;
 }

@@ -13,22 +13,22 @@ returns-in_err-found-clause-refused g c =
 pub returns-in_err-picks-clause-refused : goal.returns-in_err-picks-clause-refused
 returns-in_err-picks-clause-refused g c =
     let p = err_from_is_err_and c.from_residual-in_err-picks.result c.from_residual-in_err-picks.ensures.1 in
-    let program = program_of c.in_ok-found.found.program in
+    let program = program_of c.in_ok-found.found in
     rw (p.1, p.2) (λ given part.
     plain_picks given (string_bytes c.args.program.now) (string_bytes c.args.picks.now) program c.in_err-picks.field-0.0
     (subst (λ files. HasChecked files (string_bytes c.args.program.now) program) (sym part.same)
-    record { text = c.in_ok-found.found.text.items; is_read = c.in_ok-found.ensures.text; is_program = c.in_ok-found.ensures.program })
+    c.in_ok-found.ensures.program)
     (c.in_err-picks.ensures.refused given (later_part given (g.F.Files.files_hold c.args.files.now) (g.F.Files.files_hold c.checked_of.new.files) (g.F.Files.files_faults c.args.files.now) (g.F.Files.files_faults c.checked_of.new.files) (g.F.Files.files_faults c.picks_of.new.files) c.checked_of.ensures.keeps part)))
 
 pub returns-in_err-test_owners-clause-refused : goal.returns-in_err-test_owners-clause-refused
 returns-in_err-test_owners-clause-refused g c =
     let p = err_from_is_err_and c.from_residual-in_err-test_owners.result c.from_residual-in_err-test_owners.ensures.1 in
-    let program = program_of c.in_ok-found.found.program in
+    let program = program_of c.in_ok-found.found in
     let picks = c.in_ok-picks.picks in
     rw (p.1, p.2) (λ given part.
     plain_owner given (string_bytes c.args.program.now) (string_bytes c.args.picks.now) program picks.procs picks.entries c.in_err-test_owners.field-0.0
     (subst (λ files. HasChecked files (string_bytes c.args.program.now) program) (sym part.same)
-    record { text = c.in_ok-found.found.text.items; is_read = c.in_ok-found.ensures.text; is_program = c.in_ok-found.ensures.program })
+    c.in_ok-found.ensures.program)
     (subst (λ files. HasPicks files (string_bytes c.args.picks.now) picks.procs picks.entries) (c.checked_of.ensures.keeps.same ∙ sym part.same) c.in_ok-picks.ensures.picks) c.in_err-test_owners.ensures)
 
 pub returns-clause-picks : goal.returns-clause-picks
@@ -38,6 +38,6 @@ returns-clause-picks g c =
 
 pub returns-clause-accepted : goal.returns-clause-accepted
 returns-clause-accepted g c = record {
-  has_program = record { text = c.in_ok-found.found.text.items; is_read = c.in_ok-found.ensures.text; is_program = c.in_ok-found.ensures.program };
+  has_program = c.in_ok-found.ensures.program;
   fits = c.in_ok-test_owners.ensures;
 }

@@ -1,9 +1,8 @@
 use Rattle.std.proofs.Common.{string_bytes, subst, sym, ◌∙◌}
 use Rattle.std.proofs.lemmas.Result.{err_from_is_err_and}
 use Rattle.dsm_check.specs.CheckedViews.{program_of}
-use Rattle.dsm_top.specs.Accepted.{HasChecked, HasSchedule, IsProgram, IsProgramText}
-use Rattle.dsm_top.proofs.Parts.{run_program, run_schedule, run_owner, run_form, later_part}
-use Rattle.dsm_top.proofs.Programs.{refuses_form}
+use Rattle.dsm_top.specs.Accepted.{HasChecked, HasSchedule}
+use Rattle.dsm_top.proofs.Parts.{run_program, run_schedule, run_owner, later_part}
 use Rattle.dsm_top.proofs.prepare.prepare_run.Goals as goal
 
 pub returns-in_err-found-clause-refused : goal.returns-in_err-found-clause-refused
@@ -14,8 +13,8 @@ returns-in_err-found-clause-refused g c =
 pub returns-in_err-schedule-clause-refused : goal.returns-in_err-schedule-clause-refused
 returns-in_err-schedule-clause-refused g c =
     let p = err_from_is_err_and c.from_residual-in_err-schedule.result c.from_residual-in_err-schedule.ensures.1 in
-    let found = program_of c.in_ok-found.found.program in
-    let has : HasChecked (g.F.Files.files_hold c.args.files.now) (string_bytes c.args.program.now) found = record { text = c.in_ok-found.found.text.items; is_read = c.in_ok-found.ensures.text; is_program = c.in_ok-found.ensures.program } in
+    let found = program_of c.in_ok-found.found in
+    let has : HasChecked (g.F.Files.files_hold c.args.files.now) (string_bytes c.args.program.now) found = c.in_ok-found.ensures.program in
     rw (p.1, p.2) (λ given part.
     run_schedule given (string_bytes c.args.program.now) (string_bytes c.args.schedule.now) found c.in_err-schedule.field-0.0
     (subst (λ files. HasChecked files (string_bytes c.args.program.now) found) (sym part.same) has)
@@ -24,43 +23,18 @@ returns-in_err-schedule-clause-refused g c =
 pub returns-in_err-test_owners-clause-refused : goal.returns-in_err-test_owners-clause-refused
 returns-in_err-test_owners-clause-refused g c =
     let p = err_from_is_err_and c.from_residual-in_err-test_owners.result c.from_residual-in_err-test_owners.ensures.1 in
-    let found = program_of c.in_ok-found.found.program in
-    let has : HasChecked (g.F.Files.files_hold c.args.files.now) (string_bytes c.args.program.now) found = record { text = c.in_ok-found.found.text.items; is_read = c.in_ok-found.ensures.text; is_program = c.in_ok-found.ensures.program } in
+    let found = program_of c.in_ok-found.found in
+    let has : HasChecked (g.F.Files.files_hold c.args.files.now) (string_bytes c.args.program.now) found = c.in_ok-found.ensures.program in
     let schedule = c.in_ok-schedule.schedule in
     rw (p.1, p.2) (λ given part.
     run_owner given (string_bytes c.args.program.now) (string_bytes c.args.schedule.now) found schedule.procs schedule.entries c.in_err-test_owners.field-0.0
     (subst (λ files. HasChecked files (string_bytes c.args.program.now) found) (sym part.same) has)
     (subst (λ files. HasSchedule files (string_bytes c.args.schedule.now) schedule.procs schedule.entries) (c.checked_of.ensures.keeps.same ∙ sym part.same) c.in_ok-schedule.ensures.schedule) c.in_err-test_owners.ensures)
 
-pub returns-in_err-program-clause-refused : goal.returns-in_err-program-clause-refused
-returns-in_err-program-clause-refused g c =
-    let p = err_from_is_err_and c.from_residual-in_err-program.result c.from_residual-in_err-program.ensures.1 in
-    let found = program_of c.in_ok-found.found.program in
-    let schedule = c.in_ok-schedule.schedule in
-    rw (p.1, p.2) (λ given part.
-    run_form given (string_bytes c.args.program.now) (string_bytes c.args.schedule.now) found schedule.procs schedule.entries _
-    record {
-      has_program = record {
-        text = c.in_ok-found.found.text.items;
-        is_read = subst (λ files. IsProgramText files (string_bytes c.args.program.now) c.in_ok-found.found.text.items) (sym part.same) c.in_ok-found.ensures.text;
-        is_program = c.in_ok-found.ensures.program;
-      };
-      fits = c.in_ok-test_owners.ensures;
-    }
-    (subst (λ files. HasSchedule files (string_bytes c.args.schedule.now) schedule.procs schedule.entries) (c.checked_of.ensures.keeps.same ∙ sym part.same) c.in_ok-schedule.ensures.schedule)
-    (refuses_form c.as_slice.result.now c.in_ok-found.found.text.items c.as_slice.ensures.value c.in_err-program.field-0.0 c.in_err-program.ensures))
-
 pub returns-clause-accepted : goal.returns-clause-accepted
 returns-clause-accepted g c =
     let schedule = c.in_ok-schedule.schedule in
     record {
-      has_program = record {
-        found = program_of c.in_ok-found.found.program;
-        has_fitting = record {
-          has_program = record { text = c.in_ok-found.found.text.items; is_read = c.in_ok-found.ensures.text; is_program = c.in_ok-found.ensures.program };
-          fits = c.in_ok-test_owners.ensures;
-        };
-        is_small = subst (λ text. IsProgram text c.in_ok-program.program) c.as_slice.ensures.value c.in_ok-program.ensures;
-      };
+      has_program = record { has_program = c.in_ok-found.ensures.program; fits = c.in_ok-test_owners.ensures };
       has_schedule = subst (λ files. HasSchedule files (string_bytes c.args.schedule.now) schedule.procs schedule.entries) c.checked_of.ensures.keeps.same c.in_ok-schedule.ensures.schedule;
     }
