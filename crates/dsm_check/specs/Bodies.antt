@@ -123,10 +123,11 @@ optional check (Some a) = do
 
 -- Variables.
 
--- the names that are known at a place of a body, and how many variables the function has up to there; those of blocks that are
--- closed count too
+-- the names that are known at a place of a body, the names of all the function's variables up to there in order of declaration,
+-- and how many these are; those of blocks that are closed count too
 pub record Scope : Type 0 where
   pub names : List Entry
+  pub variables : List (List ℕ)
   pub slots : ℕ
 
 -- a new variable has the next slot
@@ -134,7 +135,11 @@ abbrev pub with_variable : Scope → Name → Check Scope
 with_variable scope name = do
   text ← new scope.names name
   count ← within which.Slots 192 (scope.slots + 1)
-  Ok (record { names = known text (Named.Variable scope.slots) ∷ scope.names; slots = scope.slots + 1 })
+  Ok (record {
+    names = known text (Named.Variable scope.slots) ∷ scope.names;
+    variables = scope.variables ++ (text ∷ []);
+    slots = scope.slots + 1;
+  })
 
 -- a variable is known in its own beginning
 abbrev pub resolve_variable : Scope → t.Variable → Check (r.Variable × Scope)
@@ -289,12 +294,18 @@ abbrev mutual
 
 -- Functions.
 
--- parameters and body are one block
+-- parameters and body are one block; each slot has the name of its variable
 abbrev pub resolve_function : List Entry → t.Function → Check r.Function
 resolve_function names function = do
-  start ← each with_variable (record { names = opened ∷ names; slots = 0 }) (params_of function.params)
+  start ← each with_variable (record { names = opened ∷ names; variables = []; slots = 0 }) (params_of function.params)
   made ← resolve_statements (record { name = function.name.text; returns = function.returns }) false start function.body
-  Ok (record { params = length (params_of function.params); slots = made.1.slots; body = made.0 })
+  Ok (record {
+    name = function.name.text;
+    params = length (params_of function.params);
+    slots = made.1.slots;
+    names = made.1.variables;
+    body = made.0;
+  })
 
 -- the functions with that of an item, if it is one
 abbrev pub with_body : List Entry → List r.Function → t.Item → Check (List r.Function)

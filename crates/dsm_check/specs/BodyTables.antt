@@ -20,7 +20,7 @@ locals_of scope = map entry_of scope.locals
 
 -- a table as the rules see it
 abbrev pub scope_of : Scope → bodies.Scope
-scope_of scope = record { names = locals_of scope ++ names_of scope.file.now; slots = scope.slots }
+scope_of scope = record { names = locals_of scope ++ names_of scope.file.now; variables = scope.variables; slots = scope.slots }
 
 -- how many blocks are open
 abbrev pub blocks_in : List Known → ℕ

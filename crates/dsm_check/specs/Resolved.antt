@@ -75,8 +75,10 @@ mutual
     none : Statements
     then : Statement → Statements → Statements
 
--- a function: how many parameters it has, how many slots with them, and its body
+-- a function: its name, how many parameters it has, how many slots with them, the name of each slot, and its body
 pub record Function : Type 0 where
+  pub name : List ℕ
   pub params : ℕ
   pub slots : ℕ
+  pub names : List (List ℕ)
   pub body : Statements

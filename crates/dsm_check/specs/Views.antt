@@ -96,7 +96,9 @@ view_statements (statement ∷ rest) = r.then (view_statement statement) (view_s
 -- a function
 abbrev pub view_function : Function → r.Function
 view_function function = record {
+  name = function.name;
   params = function.params;
   slots = function.slots;
+  names = function.names;
   body = view_statements function.body.items;
 }

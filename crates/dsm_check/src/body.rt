@@ -14,6 +14,7 @@ use crate::names::Names;
 use crate::resolved::Function;
 use crate::scope::Scope;
 use crate::statement::Around;
+use dsm_base::Text;
 use dsm_syntax as tree;
 use dsm_syntax::{Item, Name, ProgErr};
 use std::alloc::Global;
@@ -47,9 +48,12 @@ fn resolve(alloc: Global, file: &Names, function: &tree::Function) -> Result<Fun
     declare_params(&mut scope, params_of(&function.params))?;
     let params = scope.slots;
     let body = scope.statements(around, false, function.body.as_slice())?;
+    let name = Text::from_slice(alloc, function.name.text.as_slice())?;
     Ok(Function {
+        name,
         params,
         slots: scope.slots,
+        names: scope.variables,
         body,
     })
 }

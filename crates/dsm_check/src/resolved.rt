@@ -2,6 +2,7 @@
 
 use dsm_base::{Bar, Lock, Mode, Text};
 use dsm_syntax::{AssignOp, BinaryOp, Sharing, StepOp, UnaryOp};
+use sqlite_items::Items;
 
 /// Neighbouring cells, or neighbouring locks, by the first one's number.
 #[derive(Clone, Copy, Debug, PartialEq, Eq)]
@@ -89,10 +90,13 @@ pub enum Statement {
     Print(Vec<Part>),
 }
 
-/// A function: how many parameters it has, how many parameters and variables, and its body.
+/// A function: its name, how many parameters it has, how many parameters and variables, the name of
+/// each of these by its slot, and its body.
 #[derive(Drop)]
 pub struct Function {
+    pub name: Text,
     pub params: u8,
     pub slots: u8,
+    pub names: Items<Text>,
     pub body: Vec<Statement>,
 }

@@ -1,6 +1,6 @@
 //! The names that are known at a place of a body.
 
-ghost use Rattle.std.specs.Prelude.{◌≡◌, ◌+◌, ◌≤◌, OnOk, IfOk};
+ghost use Rattle.std.specs.Prelude.{◌≡◌, ◌+◌, ◌≤◌, [], OnOk, IfOk};
 ghost use Rattle.dsm_check.specs.Environments.{meaning, is_here, closed};
 ghost use Rattle.dsm_check.specs.Checks.{used};
 ghost use Rattle.dsm_check.specs.Bodies.{open_block, with_variable};
@@ -10,8 +10,9 @@ ghost use Rattle.dsm_check.specs.Answers.{Gives};
 use crate::limits::within;
 use crate::names::{Named, Names};
 use crate::refusal::{twice, unknown};
-use dsm_base::{MemFault, Stack};
+use dsm_base::{MemFault, Stack, Text};
 use dsm_syntax::{Name, ProgErr, Which};
+use sqlite_items::Items;
 use std::alloc::Global;
 
 /// Where a block begins, or a variable with its slot.
@@ -31,12 +32,14 @@ impl<'a> Known<'a> {
     }
 }
 
-/// The names of a function up to a place of its body, over those of the file.
+/// The names of a function up to a place of its body, over those of the file; and those of all its
+/// variables up to there, by slot.
 #[derive(Drop)]
 pub struct Scope<'a> {
     pub alloc: Global,
     pub file: &'a Names,
     pub locals: Stack<Known<'a>>,
+    pub variables: Items<Text>,
     pub slots: u8,
 }
 
@@ -45,13 +48,15 @@ impl<'a> Scope<'a> {
 
     /// The names of a file, and none of a function.
     pub fn new(alloc: Global, file: &'a Names) -> Scope<'a>
-        ensures value { scope_of result ≡ record { names = names_of file.now; slots = 0 } }
+        ensures value { scope_of result ≡
+            record { names = names_of file.now; variables = []; slots = 0 } }
         ensures slots { result.slots ≡ 0 }
     {
         Scope {
             alloc,
             file,
             locals: Stack::new(alloc),
+            variables: Items::new(alloc),
             slots: 0,
         }
     }
@@ -111,6 +116,8 @@ impl<'a> Scope<'a> {
         }
         let slot = self.slots;
         let slots = within(Which::Slots, 192, u64::from(slot) + 1)?;
+        self.variables
+            .push(Text::from_slice(self.alloc, name.text.as_slice())?)?;
         self.locals
             .push(Known::Variable(name.text.as_slice(), slot))?;
         self.slots = slots as u8;

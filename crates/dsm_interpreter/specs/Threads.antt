@@ -94,7 +94,13 @@ item_of (Item.Print parts) = m.print (map view_part parts.now)
 
 -- a function that is called
 abbrev pub callee_of : Callee → r.Function
-callee_of callee = record { params = callee.params; slots = callee.slots; body = view_statements callee.body.now }
+callee_of callee = record {
+  name = callee.name.now;
+  params = callee.params;
+  slots = callee.slots;
+  names = callee.names.now;
+  body = view_statements callee.body.now;
+}
 
 -- a function that is under way
 abbrev pub frame_of : Frame → m.Frame

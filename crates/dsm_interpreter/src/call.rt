@@ -12,7 +12,7 @@ ghost use Rattle.dsm_interpreter.specs.Threads.{Becomes, Steps, callee_of, frame
 use crate::execution::Execution;
 use crate::frame::{Frame, Over};
 use crate::item::Item;
-use dsm_base::{Fault, MemFault, Stack, Want};
+use dsm_base::{Fault, MemFault, Stack, Text, Want};
 use dsm_check::{Function, Statement};
 use std::alloc::Global;
 use std::mem;
@@ -23,8 +23,10 @@ const MOST_DEPTH: usize = 256;
 /// A function that is called.
 #[derive(Clone, Copy)]
 pub struct Callee<'a> {
+    pub name: &'a [u8],
     pub params: u8,
     pub slots: u8,
+    pub names: &'a [Text],
     pub body: &'a [Statement],
 }
 
@@ -34,13 +36,17 @@ pub fn callee_at<'a>(functions: &'a [Function], number: u16) -> Callee<'a>
 {
     match functions.get(usize::from(number)) {
         Some(function) => Callee {
+            name: function.name.as_slice(),
             params: function.params,
             slots: function.slots,
+            names: function.names.as_slice(),
             body: function.body.as_slice(),
         },
         None => Callee {
+            name: &[],
             params: 0,
             slots: 0,
+            names: &[],
             body: &[],
         },
     }

@@ -95,9 +95,11 @@ record IsFunction (program : check.Program) (function : r.Function) : Type 0 whe
 
 function_facts : (program : check.Program) (function : r.Function) → is_closed_function program function ≡ true → IsFunction program function
 function_facts program function h =
-    let a = and_parts (nat_le function.params function.slots) (nat_le function.slots 192 && are_closed_statements program function.slots false function.body) h in
-    let b = and_parts (nat_le function.slots 192) (are_closed_statements program function.slots false function.body) a.1 in
-    record { params = leb-true function.params function.slots a.0; body = b.1 }
+    let closes = are_closed_statements program function.slots false function.body in
+    let a = and_parts (nat_le function.params function.slots) (nat_le function.slots 192 && (length function.names == function.slots && closes)) h in
+    let b = and_parts (nat_le function.slots 192) (length function.names == function.slots && closes) a.1 in
+    let c = and_parts (length function.names == function.slots) closes b.1 in
+    record { params = leb-true function.params function.slots a.0; body = c.1 }
 
 all_prints_fine : (program : check.Program) (functions : List r.Function) → list_all (is_closed_function program) functions ≡ true → list_all is_print (functions_prints functions) ≡ true
 all_prints_fine program [] h = refl

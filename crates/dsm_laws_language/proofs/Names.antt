@@ -94,7 +94,7 @@ barrier_step functions names barrier after h step =
 made_params : (all : List Entry) (function : t.Function) (made : r.Function) → resolve_function all function ≡ Ok made
     → made.params ≡ length (params_of function.params)
 made_params all function made h =
-    then_in (each with_variable (record { names = opened ∷ all; slots = 0 }) (params_of function.params)) _ made h (λ start e1 h1.
+    then_in (each with_variable (record { names = opened ∷ all; variables = []; slots = 0 }) (params_of function.params)) _ made h (λ start e1 h1.
     then_in (resolve_statements (record { name = function.name.text; returns = function.returns }) false start function.body) _ made h1 (λ body e2 h2.
     ok_in (λ f. f.params ≡ length (params_of function.params)) _ made h2 refl))
 

@@ -1,5 +1,5 @@
 -- The states that threads of closed programs come to are closed, and find all that their steps read.
-use Rattle.std.proofs.Common.{◌≡◌, ℕ, ◌+◌, nat_lt, nat_le, ℤ, pos, negsuc, Bool, true, false, cond, ◌&&◌, List, [], ◌∷◌, length, Option, Some, None, refl, sym, subst, arith}
+use Rattle.std.proofs.Common.{◌≡◌, ◌==◌, ℕ, ◌+◌, nat_lt, nat_le, ℤ, pos, negsuc, Bool, true, false, cond, ◌&&◌, List, [], ◌∷◌, length, Option, Some, None, refl, sym, subst, arith}
 use Rattle.std.specs.Prelude.{IsTrue, slice_get, is_some}
 use Rattle.std.specs.List.{list_all}
 use Rattle.std.proofs.lemmas.Bool.{lt-ltb, le-leb, ltb-true, leb-true, eqb-true}
@@ -106,7 +106,8 @@ module _ (program : Program) (closed : is_closed program ≡ true) where
   function_there : (found : Option r.Function) → is_some found ≡ true → is_closed_function program (numbered found) ≡ true → has_function found ≡ true
   function_there None is h = cc
   function_there (Some function) is h =
-      (both_true (nat_le function.params function.slots) (nat_le function.slots 192 && are_closed_statements program function.slots false function.body) h).0
+      (both_true (nat_le function.params function.slots)
+      (nat_le function.slots 192 && (length function.names == function.slots && are_closed_statements program function.slots false function.body)) h).0
 
   loop_there : (slots : ℕ) (k : List Item) (statement : r.Statement) → is_closed_statement program slots (has_loop k) statement ≡ true
       → has_its_loop k statement ≡ true

@@ -1,7 +1,8 @@
 -- Statements of an accepted program are closed. What is said of slots is said of each number of slots that the function may have in the end.
 use Rattle.std.proofs.Common.{◌≡◌, ℕ, ◌+◌, ◌≤◌, Bool, true, false, ◌&&◌, List, [], ◌∷◌, length, Ok, Err, refl, if◌then◌else◌, arith}
 use Rattle.std.specs.List.{list_all}
-use Rattle.std.proofs.lemmas.Bool.{lt-ltb, le-leb}
+use Rattle.std.proofs.lemmas.Bool.{lt-ltb, le-leb, eq-eqb}
+use Rattle.std.proofs.lemmas.List.{length-append}
 use Rattle.dsm_syntax.specs.declared.errors.ProgErr.TheVariants as err
 use Rattle.dsm_syntax.specs.declared.errors.Which.TheVariants as which
 use Rattle.dsm_syntax.specs.declared.tree.Name.{Name}
@@ -21,9 +22,10 @@ use Rattle.dsm_laws_language.proofs.Names.{AreNamesClosed, still_closed, used_cl
 use Rattle.dsm_laws_language.proofs.Expressions.{barrier_closed, expression_closed, effect_closed, optional_closed, lock_closed, print_closed, return_closed}
 
 module _ (program : Program) where
-  -- the names of a scope are closed, and its slots few
+  -- the names of a scope are closed, and its slots few, each with a name
   record Fit (scope : Scope) : Type 0 where
     few : scope.slots ≤ 192
+    all_named : length scope.variables ≡ scope.slots
     names : (slots : ℕ) → scope.slots ≤ slots → AreNamesClosed program slots scope.names
 
   -- a scope after another that had so many slots, with what is true of what was made between them
@@ -42,6 +44,7 @@ module _ (program : Program) where
       ok_in (λ s. Fit s × (s.slots ≡ scope.slots + 1)) _ after h2 (
         record {
           few = (within_is which.Slots 192 (scope.slots + 1) count e2).1;
+          all_named = omega (arith, length-append scope.variables (text ∷ []), fit.all_named);
           names = λ slots more. (lt-ltb scope.slots slots (omega (arith, more)), fit.names slots (omega (arith, more)));
         },
         refl,
@@ -92,12 +95,16 @@ module _ (program : Program) where
       let kept = keeps inner e1 in
       ok_in (λ m. Grows from (P m.0) m.1) _ made h1 (record {
         more = kept.more;
-        fit = record { few = kept.fit.few; names = λ slots enough. still_closed program slots inner.1.names (kept.fit.names slots enough) };
+        fit = record {
+          few = kept.fit.few;
+          all_named = kept.fit.all_named;
+          names = λ slots enough. still_closed program slots inner.1.names (kept.fit.names slots enough);
+        };
         made = kept.made;
       }))
 
   opened_fit : (scope : Scope) → Fit scope → Fit (open_block scope)
-  opened_fit scope fit = record { few = fit.few; names = fit.names }
+  opened_fit scope fit = record { few = fit.few; all_named = fit.all_named; names = fit.names }
 
   start_closed : (scope : Scope) (start : t.ForStart) (made : r.ForStart × Scope) → resolve_start scope start ≡ Ok made → Fit scope
       → Grows scope.slots (λ slots. is_closed_start program slots made.0 ≡ true) made.1
@@ -264,15 +271,16 @@ module _ (program : Program) where
   function_closed : (names : List Entry) (function : t.Function) (made : r.Function) → AreNamesClosed program 0 names → are_sound_statements function.body ≡ true
       → resolve_function names function ≡ Ok made → is_closed_function program made ≡ true
   function_closed names function made all sound h =
-      let first : Scope = record { names = opened ∷ names; slots = 0 } in
+      let first : Scope = record { names = opened ∷ names; variables = []; slots = 0 } in
       then_in (each with_variable first (params_of function.params)) _ made h (λ start e1 h1.
-      let inside = params_known first (params_of function.params) start e1 (record { few = omega arith; names = λ slots enough. all_any_slots program slots names all }) in
+      let inside = params_known first (params_of function.params) start e1 (record { few = omega arith; all_named = refl; names = λ slots enough. all_any_slots program slots names all }) in
       let around : Around = record { name = function.name.text; returns = function.returns } in
       then_in (resolve_statements around false start function.body) _ made h1 (λ body e2 h2.
       let kept = statements_closed around false start function.body body sound e2 inside.0 in
       ok_in (λ f. is_closed_function program f ≡ true) _ made h2
       (both (le-leb (length (params_of function.params)) body.1.slots (omega (arith, inside.1, kept.more)))
-      (both (le-leb body.1.slots 192 kept.fit.few) (kept.made body.1.slots (omega arith))))))
+      (both (le-leb body.1.slots 192 kept.fit.few)
+      (both (eq-eqb (length body.1.variables) body.1.slots kept.fit.all_named) (kept.made body.1.slots (omega arith)))))))
 
   body_keeps : (names : List Entry) → AreNamesClosed program 0 names → (functions : List r.Function) (item : t.Item) (after : List r.Function)
       → is_sound_item item ≡ true → with_body names functions item ≡ Ok after → list_all (is_closed_function program) functions ≡ true

@@ -1,5 +1,5 @@
 -- Steps of a closed state leave closed states.
-use Rattle.std.proofs.Common.{◌≡◌, ℕ, zero, suc, ◌+◌, nat_lt, ℤ, pos, Bool, true, false, ◌&&◌, List, [], ◌∷◌, length, Option, Some, None, refl, sym, subst, if◌then◌else◌, arith, take, drop}
+use Rattle.std.proofs.Common.{◌≡◌, ◌==◌, ℕ, zero, suc, ◌+◌, nat_lt, ℤ, pos, Bool, true, false, ◌&&◌, List, [], ◌∷◌, length, Option, Some, None, refl, sym, subst, if◌then◌else◌, arith, take, drop}
 use Rattle.std.specs.Prelude.{slice_get, nat_le, reverse}
 use Rattle.std.specs.List.{list_all}
 use Rattle.std.proofs.lemmas.Bool.{leb-true}
@@ -37,8 +37,10 @@ module _ (program : Program) (closed : is_closed program ≡ true) where
   pub begins : (function : r.Function) (arguments : List ℤ) → is_closed_function program function ≡ true → length arguments ≡ function.params
       → AreClosed program (length (new_slots function arguments)) 0 (run function.body ∷ [])
   begins function arguments h long =
-      let split = both_true (nat_le function.params function.slots) (nat_le function.slots 192 && are_closed_statements program function.slots false function.body) h in
-      let body = (both_true (nat_le function.slots 192) (are_closed_statements program function.slots false function.body) split.1).1 in
+      let closes = are_closed_statements program function.slots false function.body in
+      let split = both_true (nat_le function.params function.slots) (nat_le function.slots 192 && (length function.names == function.slots && closes)) h in
+      let most = both_true (nat_le function.slots 192) (length function.names == function.slots && closes) split.1 in
+      let body = (both_true (length function.names == function.slots) closes most.1).1 in
       let few = leb-true function.params function.slots split.0 in
       subst (λ slots. AreClosed program slots 0 (run function.body ∷ [])) (sym (slots_length function arguments (omega (arith, few, long))))
       (from_outermost program function.slots (run function.body) [] refl refl body refl)

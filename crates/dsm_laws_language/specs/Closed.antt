@@ -128,10 +128,11 @@ abbrev mutual
   are_closed_statements program slots looped (r.then statement rest) =
       is_closed_statement program slots looped statement && are_closed_statements program slots looped rest
 
--- a function has slots for its parameters, at most 192 in all, and a closed body
+-- a function has slots for its parameters, at most 192 in all, a name for each slot, and a closed body
 abbrev pub is_closed_function : Program → r.Function → Bool
 is_closed_function program function =
-    nat_le function.params function.slots && (nat_le function.slots 192 && are_closed_statements program function.slots false function.body)
+    nat_le function.params function.slots && (nat_le function.slots 192 && (length function.names == function.slots
+    && are_closed_statements program function.slots false function.body))
 
 -- there are at most 65,536 shared cells, 16,384 private ones, 256 locks, 64 barriers and 256 functions
 abbrev pub has_limits : Program → Bool

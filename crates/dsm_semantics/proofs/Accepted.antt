@@ -487,8 +487,8 @@ module _ (extent : Extent) where
   function_within : (names : List Entry) (function : t.Function) (made : r.Function) → AreNamesWithin names → are_sound_statements function.body ≡ true
       → resolve_function names function ≡ Ok made → AreStatementsWithin extent made.body
   function_within names function made all sound h =
-      then_in (each with_variable (record { names = opened ∷ names; slots = 0 }) (params_of function.params)) _ made h (λ start e1 h1.
-      let inside = each_keeps (λ scope. AreNamesWithin scope.names) with_variable variable_known (record { names = opened ∷ names; slots = 0 }) (params_of function.params) start e1 all in
+      then_in (each with_variable (record { names = opened ∷ names; variables = []; slots = 0 }) (params_of function.params)) _ made h (λ start e1 h1.
+      let inside = each_keeps (λ scope. AreNamesWithin scope.names) with_variable variable_known (record { names = opened ∷ names; variables = []; slots = 0 }) (params_of function.params) start e1 all in
       let around : Around = record { name = function.name.text; returns = function.returns } in
       then_in (resolve_statements around false start function.body) _ made h1 (λ body e2 h2.
       ok_in (λ f. AreStatementsWithin extent f.body) _ made h2 (statements_within around false start function.body body sound e2 inside).0))

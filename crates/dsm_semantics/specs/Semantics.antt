@@ -130,7 +130,7 @@ most_depth = 256
 
 -- the function of a number; each number in a program is that of a function
 abbrev pub numbered : Option r.Function → r.Function
-numbered None = record { params = 0; slots = 0; body = r.none }
+numbered None = record { name = []; params = 0; slots = 0; names = []; body = r.none }
 numbered (Some function) = function
 
 -- the slots of a function that is entered: its arguments, and zeros
