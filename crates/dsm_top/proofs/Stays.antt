@@ -1,8 +1,7 @@
 -- Threads of a program's code want only what the program's setup has.
-use Rattle.std.specs.Prelude.{◌≡◌, ◌≤◌, ℕ, true}
+use Rattle.std.specs.Prelude.{◌≡◌, ℕ, true}
 use Rattle.std.proofs.Common.{refl, sym, ap, ◌∙◌, arith, subst}
 use Rattle.dsm_base.specs.declared.setup.Setup.{Setup}
-use Rattle.dsm_base.specs.Steps.{goes}
 use Rattle.dsm_base.specs.Threads.{StaysWithin}
 use Rattle.dsm_base.proofs.StepsSettle.{settled_keeps}
 use Rattle.dsm_check.specs.Programs.{Program}

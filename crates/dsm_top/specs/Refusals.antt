@@ -1,5 +1,5 @@
 -- Why a call is refused before anything runs.
-use Rattle.std.specs.Prelude.{◌≡◌, ◌≢◌, ◌⊎◌, ℕ, List, Option, Some, None, Result, Ok, Err, zero, suc}
+use Rattle.std.specs.Prelude.{◌≡◌, ◌≢◌, ◌⊎◌, ℕ, List, Option, Some, None, Err, zero, suc}
 use Rattle.dsm_base.specs.Causes.{Rose}
 use Rattle.dsm_base.specs.declared.act.SchedErr.{SchedErr}
 use Rattle.dsm_syntax.specs.declared.errors.ProgErr.{ProgErr}
@@ -17,7 +17,7 @@ use Rattle.dsm_sched.specs.PickTexts.{picks_said}
 use Rattle.dsm_sched.specs.Built.{built_said}
 use Rattle.dsm_top.specs.declared.status.Status.{Status}
 use Rattle.dsm_command.specs.Commands.{Command, run, check, plain, load}
-use Rattle.dsm_top.specs.Accepted.{Contents, IsProgramText, IsScheduleText, HasChecked, HasFitting, HasPicks, HasSchedule}
+use Rattle.dsm_top.specs.Accepted.{Contents, IsProgramText, IsScheduleText, HasChecked, HasPicks, HasSchedule}
 
 -- what a call was given: the command that its words are, what the files hold, and how often they had
 -- failed before it and have after it
