@@ -8,6 +8,7 @@ use dsm_parse::parse;
 use dsm_syntax::lex;
 use dsm_thread::CodeMaker;
 use std::alloc::Global;
+use std::process::Abort;
 use std::test::Fail;
 
 /// What a thread did: the lines that it wanted, how many labelled steps it made, and why it stopped, if it
@@ -128,23 +129,25 @@ int main(int me, int n) {
   release(M[1]);
 }";
 
-/// Programs, and the lines of processor 1.
-const PRINTING: &[(&str, &str)] = &[
-    (LOOPS, "sum 336 k 1\n1113\n"),
-    (LOGIC, "0169 10035609\n"),
-    (STEPS, "3 6 2\n0 5 101 2\n-9 8 9 0\n"),
-    (SHARED, "610\n12\n"),
-];
-
-#[test]
-fn threads_print_what_programs_say(rt: HostRuntime) -> Result<(), Fail> {
-    let alloc = rt.alloc();
-    for (text, lines) in PRINTING {
+/// The thread of processor 1 prints the lines that stand beside a program.
+fn print(rt: &impl Abort, alloc: Global, table: &[(&str, &str)]) -> Result<(), Fail> {
+    for (text, lines) in table {
         let ran = run(alloc, text, 1)?;
         assert_eq!(rt; ran.lines.as_slice(), lines.as_bytes());
         assert_eq!(rt; ran.stopped, None);
     }
     Ok(())
+}
+
+#[test]
+fn threads_print_what_programs_say(rt: HostRuntime) -> Result<(), Fail> {
+    const TABLE: &[(&str, &str)] = &[
+        (LOOPS, "sum 336 k 1\n1113\n"),
+        (LOGIC, "0169 10035609\n"),
+        (STEPS, "3 6 2\n0 5 101 2\n-9 8 9 0\n"),
+        (SHARED, "610\n12\n"),
+    ];
+    print(&rt, rt.alloc(), TABLE)
 }
 
 const ENDLESS: &str = "int f(int k) { return f(k + 1); }
