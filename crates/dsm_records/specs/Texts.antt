@@ -64,7 +64,7 @@ layer_text layer.Note = codes "note"
 layer_text layer.Ack = codes "ack"
 layer_text (layer.Resync bodies) = spaced (codes "resync" ∷ decimal (length bodies) ∷ [])
 layer_text (layer.Report report) = codes "report"
-layer_text (layer.Pruned turn versions crossings) = spaced (codes "pruned" ∷ decimal turn ∷ [])
+layer_text (layer.Pruned turn versions crossings) = codes "pruned"
 
 -- what a message said
 abbrev pub body_text : Body → List ℕ

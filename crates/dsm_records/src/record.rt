@@ -138,10 +138,7 @@ fn body_text(alloc: Global, body: &Body) -> Result<String, MemFault>
             Ok(format!(in alloc; "resync {count}")?)
         }
         Body::Report(_) => Ok(String::from_str(alloc, "report")?),
-        Body::Pruned { turn, .. } => {
-            let turn = *turn;
-            Ok(format!(in alloc; "pruned {turn}")?)
-        }
+        Body::Pruned { .. } => Ok(String::from_str(alloc, "pruned")?),
     }
 }
 
