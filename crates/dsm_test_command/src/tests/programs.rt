@@ -53,3 +53,15 @@ pub const RING: &str =
 /// Calls without end.
 pub const DEEP: &str =
     "int f(int k) { return f(k + 1); }\nint main(int me, int n) { return f(0); }\n";
+
+/// One writes what the others read together.
+pub const READERS: &str =
+    "shared int x;\nlock_t L;\nbind(L, x, 0, 1);\nint main(int me, int n) {\n  if (me == 1) { acquire(L); x = 5; release(L); } else { acquire_shared(L); print(x); release(L); } return 0;\n}\n";
+
+/// A store in an epoch too late.
+pub const LATE: &str =
+    "shared int a;\nbarrier_t B;\nbindb(B, a, 0, 1, 0, 0, 2);\nint main(int me, int n) {\n  barrier(B);\n  a = 1;\n}\n";
+
+/// A store that changes no value, to one of three lines.
+pub const LINES: &str =
+    "shared int a[24];\nlock_t L;\nbind(L, a, 0, 24);\nint main(int me, int n) {\n  acquire(L); if (me == 0) { a[9] = 0; } release(L); return 0;\n}\n";

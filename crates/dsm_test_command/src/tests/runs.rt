@@ -1,7 +1,9 @@
 //! Runs by schedules.
 
 use crate::tests::called::{Called, are_right, call, files};
-use crate::tests::programs::{ADDER, COUNTER, FIRST, NOTHING, RING, SECOND, STORED, SUM, UNBOUND};
+use crate::tests::programs::{
+    ADDER, COUNTER, DEEP, FIRST, LATE, LINES, NOTHING, READERS, RING, SECOND, STORED, SUM, UNBOUND,
+};
 use dsm_base::MemSink;
 use std::alloc::{AllocError, Global};
 use std::test::Fail;
@@ -127,6 +129,38 @@ fn programs_of_the_whole_language_run(rt: HostRuntime) -> Result<(), Fail> {
             status: 0,
             units: 90,
             written: "P0: 30\nP1: 10\nP2: 20\n",
+        },
+        Called {
+            words: "run prog other",
+            program: READERS,
+            other: "procs 4\nstep 2\ndeliver 2 0\nstep 3\ndeliver 3 0\nstep 1\ndeliver 1 0\nstep 0\ndeliver 0 2\ndeliver 0 3\nstep 3 4\ndeliver 3 0\nstep 2 4\ndeliver 2 0\ndeliver 0 1\nstep 1 3\ndeliver 1 0\nstep 0 3\ndeliver 0 1\nfinish 5\n",
+            status: 0,
+            units: 108,
+            written: "P3: 0\nP2: 0\nP0: 5\n",
+        },
+        Called {
+            words: "run prog other",
+            program: LATE,
+            other: "procs 2\nfinish 5\n",
+            status: 1,
+            units: 20,
+            written: "P0: fault unbound line 6\nP1: fault unbound line 6\n",
+        },
+        Called {
+            words: "run prog other",
+            program: DEEP,
+            other: "procs 2\nstep 0 256\n",
+            status: 2,
+            units: 256,
+            written: "P0: fault depth line 1\n",
+        },
+        Called {
+            words: "run prog other --trace",
+            program: LINES,
+            other: "procs 2\nstep 0 4\nstep 1\ndeliver 1 0\n",
+            status: 2,
+            units: 6,
+            written: "--\nunit 1\nturn 0 1 ask 0 excl\nunit 2\nturn 0 2 take 0 excl 0 lines\nunit 3\nturn 0 3 store 9 0\nunit 4\nturn 0 4 give 0\nunit 5\nturn 1 1 ask 0 excl\nsent 1 1 0 req 0 excl 0\nunit 6\ndelivered 1\nsent 2 0 1 grant 0 excl 1 lines 1\n",
         },
     ];
     are_right(&rt, rt.alloc(), TABLE)
