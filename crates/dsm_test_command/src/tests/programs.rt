@@ -53,3 +53,27 @@ pub const RING: &str =
 /// Calls without end.
 pub const DEEP: &str =
     "int f(int k) { return f(k + 1); }\nint main(int me, int n) { return f(0); }\n";
+
+/// One writes what the others read together.
+pub const READERS: &str =
+    "shared int x;\nlock_t L;\nbind(L, x, 0, 1);\nint main(int me, int n) {\n  if (me == 1) { acquire(L); x = 5; release(L); } else { acquire_shared(L); print(x); release(L); } return 0;\n}\n";
+
+/// A store in an epoch too late.
+pub const LATE: &str =
+    "shared int a;\nbarrier_t B;\nbindb(B, a, 0, 1, 0, 0, 2);\nint main(int me, int n) {\n  barrier(B);\n  a = 1;\n}\n";
+
+/// A store that changes no value, to one of three lines.
+pub const LINES: &str =
+    "shared int a[24];\nlock_t L;\nbind(L, a, 0, 24);\nint main(int me, int n) {\n  acquire(L); if (me == 0) { a[9] = 0; } release(L); return 0;\n}\n";
+
+/// Cells of two locks, in the other order than their pieces, a cell of a barrier, and a lock without cells.
+pub const MIXED: &str =
+    "shared int a[5];\nshared int z;\nlock_t L[3];\nbarrier_t B;\nbind(L[0], a, 3, 2);\nbind(L[1], a, 0, 2);\nbindb(B, z, 0, 1, 0, 0, 2);\nint main(int me, int n) {\n  if (me == 0) { z = 7; }\n  acquire(L[1]);\n  a[0] = me - 5;\n  release(L[1]);\n  return 0;\n}\n";
+
+/// A value that is handed on at a barrier.
+pub const HANDED: &str =
+    "shared int a;\nbarrier_t B;\nbindb(B, a, 0, 1, 0, 0, 2);\nint main(int me, int n) {\n  if (me == 0) { a = -3; }\n  barrier(B);\n  print(a);\n}\n";
+
+/// A shared hold, a call, and a divisor of 0 on line 2.
+pub const DIVIDED: &str =
+    "lock_t L;\nint f(int k) { return 1 / k; }\nint main(int me, int n) {\n  acquire_shared(L);\n  release(L);\n  return f(0);\n}\n";

@@ -323,6 +323,19 @@ fn failures_leave_a_part(rt: HostRuntime) -> Result<(), Fail> {
             kind: CallKind::Put,
             nth: 2,
         },
+        // The state is one piece with its `--`: there is no second one that could fail.
+        Failed {
+            call: Called {
+                words: "run prog other --state",
+                program: NOTHING,
+                other: "procs 2\nfinish 1\n",
+                status: 0,
+                units: 4,
+                written: "--\nP0 turn 1 end\nP1 turn 1 end\n",
+            },
+            kind: CallKind::Put,
+            nth: 2,
+        },
         Failed {
             call: Called {
                 words: "run prog other",

@@ -1,7 +1,10 @@
 //! Runs by schedules.
 
 use crate::tests::called::{Called, are_right, call, files};
-use crate::tests::programs::{ADDER, COUNTER, FIRST, NOTHING, RING, SECOND, STORED, SUM, UNBOUND};
+use crate::tests::programs::{
+    ADDER, COUNTER, DEEP, DIVIDED, FIRST, HANDED, LATE, LINES, MIXED, NOTHING, READERS, RING,
+    SECOND, STORED, SUM, UNBOUND,
+};
 use dsm_base::MemSink;
 use std::alloc::{AllocError, Global};
 use std::test::Fail;
@@ -128,6 +131,38 @@ fn programs_of_the_whole_language_run(rt: HostRuntime) -> Result<(), Fail> {
             units: 90,
             written: "P0: 30\nP1: 10\nP2: 20\n",
         },
+        Called {
+            words: "run prog other",
+            program: READERS,
+            other: "procs 4\nstep 2\ndeliver 2 0\nstep 3\ndeliver 3 0\nstep 1\ndeliver 1 0\nstep 0\ndeliver 0 2\ndeliver 0 3\nstep 3 4\ndeliver 3 0\nstep 2 4\ndeliver 2 0\ndeliver 0 1\nstep 1 3\ndeliver 1 0\nstep 0 3\ndeliver 0 1\nfinish 5\n",
+            status: 0,
+            units: 108,
+            written: "P3: 0\nP2: 0\nP0: 5\n",
+        },
+        Called {
+            words: "run prog other",
+            program: LATE,
+            other: "procs 2\nfinish 5\n",
+            status: 1,
+            units: 20,
+            written: "P0: fault unbound line 6\nP1: fault unbound line 6\n",
+        },
+        Called {
+            words: "run prog other",
+            program: DEEP,
+            other: "procs 2\nstep 0 256\n",
+            status: 2,
+            units: 256,
+            written: "P0: fault depth line 1\n",
+        },
+        Called {
+            words: "run prog other --trace",
+            program: LINES,
+            other: "procs 2\nstep 0 4\nstep 1\ndeliver 1 0\n",
+            status: 2,
+            units: 6,
+            written: "--\nunit 1\nturn 0 1 ask 0 excl\nunit 2\nturn 0 2 take 0 excl 0 lines\nunit 3\nturn 0 3 store 9 0\nunit 4\nturn 0 4 give 0\nunit 5\nturn 1 1 ask 0 excl\nsent 1 1 0 req 0 excl 0\nunit 6\ndelivered 1\nsent 2 0 1 grant 0 excl 1 lines 1\n",
+        },
     ];
     are_right(&rt, rt.alloc(), TABLE)
 }
@@ -158,6 +193,53 @@ fn a_trace_comes_behind_the_lines(rt: HostRuntime) -> Result<(), Fail> {
             status: 2,
             units: 0,
             written: "--\n",
+        },
+    ];
+    are_right(&rt, rt.alloc(), TABLE)
+}
+
+#[test]
+fn texts_have_each_kind_of_line(rt: HostRuntime) -> Result<(), Fail> {
+    const TABLE: &[Called] = &[
+        Called {
+            words: "run prog other --state",
+            program: RING,
+            other: "procs 3\nfinish 10\n",
+            status: 0,
+            units: 90,
+            written: "P0: 30\nP1: 10\nP2: 20\n--\nP0 turn 10 end\nP1 turn 10 end\nP2 turn 10 end\n",
+        },
+        Called {
+            words: "run prog other --state",
+            program: MIXED,
+            other: "procs 2\nstep 0 3\n",
+            status: 2,
+            units: 3,
+            written: "--\nP0 turn 2 running\nP1 turn 0 running\nlock 0 version 0 cells 3=0 4=0\nlock 1 version 0 cells 0=0 1=0\nlock 2 version 0 cells\n",
+        },
+        Called {
+            words: "run prog other --state",
+            program: MIXED,
+            other: "procs 2\nfinish 20\n",
+            status: 0,
+            units: 80,
+            written: "--\nP0 turn 6 end\nP1 turn 5 end\nlock 0 version 0 cells 3=0 4=0\nlock 1 version 2 cells 0=-5 1=0\nlock 2 version 0 cells\n",
+        },
+        Called {
+            words: "run prog other --trace",
+            program: HANDED,
+            other: "procs 2\nstep 0 2\nstep 1\ndeliver 1 0\nstep 0\ndeliver 0 1\nstep 1 4\n",
+            status: 2,
+            units: 10,
+            written: "P1: -3\n--\nunit 1\nturn 0 1 store 0 -3\nunit 2\nturn 0 2 arrive 0\nunit 3\nturn 1 1 arrive 0\nsent 1 1 0 arrive 0 0 lines\nunit 4\ndelivered 1\nsent 2 0 1 open 0 1 lines 0\nunit 5\nturn 0 3 cross 0 1 lines\nunit 6\ndelivered 2\nunit 7\nturn 1 2 cross 0 1 lines 0\nunit 8\nturn 1 3 load 0 -3\nunit 9\nturn 1 4 line -3\nout 1 4\nunit 10\nturn 1 5 end\n",
+        },
+        Called {
+            words: "run prog other --trace --state",
+            program: DIVIDED,
+            other: "procs 2\nstep 1\ndeliver 1 0\ndeliver 0 1\nstep 1 4\n",
+            status: 2,
+            units: 7,
+            written: "P1: fault divzero line 2\n--\nunit 1\nturn 1 1 ask 0 shared\nsent 1 1 0 req 0 shared 0\nunit 2\ndelivered 1\nsent 2 0 1 grant 0 shared 0 lines\nunit 3\ndelivered 2\nunit 4\nturn 1 2 take 0 shared 0 lines\nunit 5\nturn 1 3 give 0\nsent 3 1 0 release 0 shared 0 lines\nunit 6\nturn 1 4 quiet\nunit 7\nturn 1 5 stop divzero 2\nout 1 5\n--\nP0 turn 0 running\nP1 turn 5 stop divzero 2\nlock 0 version 0 cells\n",
         },
     ];
     are_right(&rt, rt.alloc(), TABLE)
